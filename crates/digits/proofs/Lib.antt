@@ -1,0 +1,5 @@
+pub mod Bits
+pub mod Lines
+pub mod Refusals
+pub mod Table
+pub mod Sole

@@ -1,0 +1,111 @@
+-- "Given exactly when": the one law of lists of checks. Assumes nothing.
+use Prim.Native.Nat.{ℕ, zero, suc, _<_, suc-le-suc}
+use mathlib.Core.Path.{_≡_, refl, ap, subst}
+use mathlib.Core.List.{List, [], _∷_}
+use mathlib.Core.Bool.{Bool, true, false, not}
+use mathlib.Core.Logic.{_↔_}
+use native.Mathlib.Nat.{not-suc-le-zero, le-of-suc-le-suc, zero-lt-suc}
+use native.Mathlib.Omega.{arith}
+use lib.Dec.{T}
+use lib.ListN.{length}
+use Rattle.digits.specs.Refusal.{Check, first, answer, numberAt, testAt, Given}
+
+-- the answer where a number is given, and where none is
+module _ {A : Type 0} (refused : ℕ → A) (x : A) where
+  pub refuses : (n : ℕ) → (n ≡ 0 → ⊥) → answer n refused x ≡ refused n
+  refuses zero h = absurd (h refl)
+  refuses (suc n) h = refl
+
+  pub accepts : (n : ℕ) → n ≡ 0 → answer n refused x ≡ x
+  accepts zero h = refl
+  accepts (suc n) h = absurd (omega arith)
+
+-- no number of the list is 0: at a list with its numbers written out this computes
+abbrev pub numbered : List Check → Bool
+numbered [] = true
+numbered ((zero, b) ∷ cs) = false
+numbered ((suc n, b) ∷ cs) = numbered cs
+
+true-not-false : {b : Bool} → b ≡ true → b ≡ false → ⊥
+true-not-false p q = let z : _≡_ {A = ℕ} 0 1 = cc in omega arith
+
+-- no test of the list holds
+abbrev pub None : List Check → Type 0
+None [] = Unit {0}
+None ((n, b) ∷ cs) = (b ≡ false) × None cs
+
+pub none-first : (cs : List Check) → None cs → first cs ≡ 0
+none-first [] h = refl
+none-first ((n, true) ∷ cs) h = absurd (true-not-false refl (h .0))
+none-first ((n, false) ∷ cs) h = none-first cs (h .1)
+
+pub first-none : (cs : List Check) → T (numbered cs) → first cs ≡ 0 → None cs
+first-none [] t e = tt
+first-none ((zero, b) ∷ cs) t e = absurd t
+first-none ((suc n, true) ∷ cs) t e = absurd (omega arith)
+first-none ((suc n, false) ∷ cs) t e = (refl, first-none cs t e)
+
+here : (m : ℕ) (cs : List Check) → Given m ((m, true) ∷ cs)
+here m cs = record { place = 0; inside = zero-lt-suc _; number = refl; holds = refl; earlier = λ j h. absurd (not-suc-le-zero h) }
+
+earlier-than : (n : ℕ) (cs : List Check) (i : ℕ) → ((j : ℕ) → j < i → testAt cs j ≡ false) → (j : ℕ) → j < suc i → testAt ((n, false) ∷ cs) j ≡ false
+earlier-than n cs i e zero h = refl
+earlier-than n cs i e (suc j) h = e j (le-of-suc-le-suc h)
+
+later : {m n : ℕ} {cs : List Check} → Given n cs → Given n ((m, false) ∷ cs)
+later {m} {n} {cs} g =
+    record {
+      place = suc (g .place);
+      inside = suc-le-suc (g .inside);
+      number = g .number;
+      holds = g .holds;
+      earlier = earlier-than m cs (g .place) (g .earlier);
+    }
+
+-- what is given is the first number
+pub given-first : (cs : List Check) (n : ℕ) → Given n cs → first cs ≡ n
+given-first cs n g = go cs (g .place) (g .inside) (g .number) (g .holds) (g .earlier)
+  where
+    go : (l : List Check) (i : ℕ) → i < length l → numberAt l i ≡ n → testAt l i ≡ true → ((j : ℕ) → j < i → testAt l j ≡ false) → first l ≡ n
+    go [] i h e t f = absurd (not-suc-le-zero h)
+    go ((m, true) ∷ l) zero h e t f = e
+    go ((m, false) ∷ l) zero h e t f = absurd (true-not-false t refl)
+    go ((m, true) ∷ l) (suc i) h e t f = absurd (true-not-false refl (f zero (zero-lt-suc i)))
+    go ((m, false) ∷ l) (suc i) h e t f = go l i (le-of-suc-le-suc h) e t (λ j k. f (suc j) (suc-le-suc k))
+
+-- a first number that is not 0 is given
+pub first-given : (cs : List Check) (n : ℕ) → first cs ≡ suc n → Given (suc n) cs
+first-given [] n e = absurd (let z : _≡_ {A = ℕ} 0 1 = omega arith in omega arith)
+first-given ((m, true) ∷ cs) n e = subst (λ (k : ℕ). Given k ((m, true) ∷ cs)) e (here m cs)
+first-given ((m, false) ∷ cs) n e = later (first-given cs n e)
+
+never-0 : (cs : List Check) → T (numbered cs) → Given 0 cs → ⊥
+never-0 cs t g = go cs t (g .place) (g .inside) (g .number)
+  where
+    go : (l : List Check) → T (numbered l) → (i : ℕ) → i < length l → numberAt l i ≡ 0 → ⊥
+    go [] t i h e = not-suc-le-zero h
+    go ((zero, b) ∷ l) t i h e = t
+    go ((suc m, b) ∷ l) t zero h e = omega arith
+    go ((suc m, b) ∷ l) t (suc i) h e = go l t i (le-of-suc-le-suc h) e
+
+-- an answer that refuses gives a number exactly when the list gives it
+module _ {A : Type 0} (refused : ℕ → A) (x : A) (told : (m n : ℕ) → refused m ≡ refused n → m ≡ n) (apart : (n : ℕ) → x ≡ refused n → ⊥) where
+  pub exactly : (cs : List Check) → T (numbered cs) → (n : ℕ) → (answer (first cs) refused x ≡ refused n) ↔ Given n cs
+  exactly cs t n = (to (first cs) refl, λ g. back n g)
+    where
+      to : (k : ℕ) → first cs ≡ k → answer k refused x ≡ refused n → Given n cs
+      to zero e a = absurd (apart n a)
+      to (suc k) e a = subst (λ (m : ℕ). Given m cs) (told (suc k) n a) (first-given cs k e)
+
+      back : (m : ℕ) → Given m cs → answer (first cs) refused x ≡ refused m
+      back zero g = absurd (never-0 cs t g)
+      back (suc m) g = ap (λ (k : ℕ). answer k refused x) (given-first cs (suc m) g)
+
+-- an answer that is no refusal: no test of the list holds, and it is the answer that was to be given
+pub given-none : {A : Type 0} (refused : ℕ → A) (x y : A) → ((n : ℕ) → refused n ≡ y → ⊥)
+    → (cs : List Check) → T (numbered cs) → answer (first cs) refused x ≡ y → None cs × (x ≡ y)
+given-none refused x y apart cs t = by (first cs) refl
+  where
+    by : (k : ℕ) → first cs ≡ k → answer k refused x ≡ y → None cs × (x ≡ y)
+    by zero e a = (first-none cs t e, a)
+    by (suc k) e a = absurd (apart (suc k) a)

@@ -1,0 +1,55 @@
+// What everything stands on: a byte by its bits and its digits, and a refusal before others.
+ghost use mathlib.Core.Path.{_≡_};
+ghost use mathlib.Core.Bool.{cond};
+ghost use Prim.Native.Nat.{_-_, _^_};
+ghost use Rattle.digits.specs.Bits.{bit, withBit};
+ghost use Rattle.digits.specs.Digits.{bothDecimal};
+
+// How many bits of a byte stand below its bit `n`.
+fn below(n: u8) -> u8
+    ensures { λ r. ⌜ r ≡ 7 - n ⌝ }
+{
+    if n < 7 { 7 - n } else { 0 }
+}
+
+// Bit `n` of a byte is on, bit 0 being the high one.
+pub fn bit(byte: u8, n: u8) -> bool
+    ensures { λ r. ⌜ r ≡ bit byte n ⌝ }
+{
+    (byte >> below(n)) % 2 == 1
+}
+
+// What bit `n` of a byte is worth.
+fn place(n: u8) -> u8
+    ensures { λ r. ⌜ r ≡ 2 ^ (7 - n) ⌝ }
+{
+    1 << below(n)
+}
+
+// The byte with its bit `n` on or off.
+pub fn with_bit(byte: u8, n: u8, on: bool) -> u8
+    ensures { λ r. ⌜ r ≡ withBit byte n on ⌝ }
+{
+    let worth = place(n);
+    if bit(byte, n) {
+        if on {
+            return byte;
+        }
+        return byte - worth;
+    }
+    if on { byte + worth } else { byte }
+}
+
+// Both digits are at most 9.
+pub fn both_decimal(byte: u8) -> bool
+    ensures { λ r. ⌜ r ≡ bothDecimal byte ⌝ }
+{
+    (byte / 16 <= 9) & (byte % 16 <= 9)
+}
+
+// The number where its test holds, else what the later tests gave.
+pub fn first_of(test: bool, number: u8, later: u8) -> u8
+    ensures { λ r. ⌜ r ≡ cond test number later ⌝ }
+{
+    if test { number } else { later }
+}

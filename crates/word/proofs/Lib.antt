@@ -1,0 +1,5 @@
+pub mod Masks
+pub mod Odd
+pub mod Trips
+mod Sums
+pub mod Promises
