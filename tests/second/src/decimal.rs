@@ -1,0 +1,71 @@
+//! The decimal entry by whole-number arithmetic: first field += second field. It runs no microprogram,
+//! so it has no count of cycles.
+
+use crate::bits::{both_decimal, from_digits, high_digit, low_digit};
+use crate::cycle::storage_fits;
+use crate::Refusal;
+
+#[derive(Clone, Copy, Debug, PartialEq, Eq)]
+pub enum Outcome {
+    Summed { carry: bool },
+    BadDigit,
+    Refused { number: Refusal },
+}
+
+pub const LONGEST_FIELD: usize = 16;
+
+/// Two packed unsigned fields of one length, each start its lowest address. Only a sum changes storage.
+pub fn add_decimal(
+    main: &mut [u8],
+    local: &[u8],
+    first: usize,
+    second: usize,
+    length: usize,
+    carry_in: bool,
+) -> Outcome {
+    let number = refusal(main, local, first, second, length);
+    if number != 0 {
+        return Outcome::Refused { number };
+    }
+    let values = (value(&main[first..first + length]), value(&main[second..second + length]));
+    let (Some(augend), Some(addend)) = values else {
+        return Outcome::BadDigit;
+    };
+    // 32 digits are under 107 bits, so no sum here leaves 128.
+    let total = augend + addend + u128::from(carry_in);
+    let bound = 10u128.pow(2 * length as u32);
+    write_value(&mut main[first..first + length], total % bound);
+    Outcome::Summed { carry: total >= bound }
+}
+
+/// The first of 1, 12, 13, 14 that is given, or 0.
+fn refusal(main: &[u8], local: &[u8], first: usize, second: usize, length: usize) -> Refusal {
+    // A start may be as large as the machine's numbers go.
+    let outside = |start: usize| start.checked_add(length).is_none_or(|end| end > main.len());
+    let checks = [
+        (1, !storage_fits(main, local)),
+        (12, !(1..=LONGEST_FIELD).contains(&length)),
+        (13, outside(first) || outside(second)),
+        (14, first != second && first.abs_diff(second) < length),
+    ];
+    checks.iter().find(|(_, given)| *given).map_or(0, |(number, _)| *number)
+}
+
+/// The number in a field, or None where a digit is over 9.
+fn value(field: &[u8]) -> Option<u128> {
+    if !field.iter().all(|byte| both_decimal(*byte)) {
+        return None;
+    }
+    let digits = field.iter().flat_map(|byte| [high_digit(*byte), low_digit(*byte)]);
+    Some(digits.fold(0, |number, digit| number * 10 + u128::from(digit)))
+}
+
+/// Lowest address last: it holds the highest digits.
+fn write_value(field: &mut [u8], number: u128) {
+    let mut rest = number;
+    for byte in field.iter_mut().rev() {
+        let pair = (rest % 100) as u8;
+        *byte = from_digits(pair / 10, pair % 10);
+        rest /= 100;
+    }
+}

@@ -1,0 +1,22 @@
+//! A second Model 30 engine, written from document 01 alone, for the proved one to be compared with.
+//!
+//! One file for each section of the paper. Behaviour sits in tables of functions indexed by a field's
+//! code; a code with no entry is a code that is not modelled, so refusal 10 reads the same tables.
+
+pub mod adder;
+pub mod bits;
+pub mod branch;
+pub mod cycle;
+pub mod decimal;
+pub mod deck;
+pub mod lister;
+pub mod random;
+pub mod registers;
+pub mod run;
+pub mod state;
+pub mod status;
+pub mod storage;
+pub mod word;
+
+/// The number of a refusal, as document 01 gives it.
+pub type Refusal = u8;

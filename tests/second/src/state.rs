@@ -1,0 +1,102 @@
+//! The state that a cycle changes, in the order of document 01 and of the panel's 22 lamp channels.
+
+// Places in `registers`.
+pub const I: usize = 0;
+pub const J: usize = 1;
+pub const U: usize = 2;
+pub const V: usize = 3;
+pub const L: usize = 4;
+pub const T: usize = 5;
+pub const D: usize = 6;
+pub const R: usize = 7;
+pub const S: usize = 8;
+pub const G: usize = 9;
+pub const H: usize = 10;
+pub const M: usize = 11;
+pub const N: usize = 12;
+
+#[derive(Clone, Copy, Debug, Default, PartialEq, Eq)]
+pub struct State {
+    /// I J U V L T D R S G H M N.
+    pub registers: [u8; 13],
+    /// 16 bits held, 12 used.
+    pub wx: u16,
+    pub ac: bool,
+    /// 1BC.
+    pub bc1: bool,
+    pub z0: bool,
+    pub allow_write: bool,
+    /// The storage kind last selected.
+    pub local: bool,
+    pub arriving: bool,
+    /// Means nothing with `arriving` off; a cycle that ran leaves 0 there.
+    pub arriving_byte: u8,
+}
+
+impl State {
+    /// The panel's record; a latch is 0 or 1.
+    pub fn to_bytes(&self) -> [u8; 22] {
+        let mut bytes = [0; 22];
+        bytes[..13].copy_from_slice(&self.registers);
+        bytes[13..15].copy_from_slice(&self.wx.to_be_bytes());
+        let latches = [self.ac, self.bc1, self.z0, self.allow_write, self.local, self.arriving];
+        for (byte, latch) in bytes[15..21].iter_mut().zip(latches) {
+            *byte = u8::from(latch);
+        }
+        bytes[21] = self.arriving_byte;
+        bytes
+    }
+
+    /// The state of the panel's record; a latch byte is on at any value but 0.
+    pub fn from_bytes(bytes: &[u8; 22]) -> State {
+        let mut registers = [0; 13];
+        registers.copy_from_slice(&bytes[..13]);
+        let on = |channel: usize| bytes[channel] != 0;
+        State {
+            registers,
+            wx: u16::from_be_bytes([bytes[13], bytes[14]]),
+            ac: on(15),
+            bc1: on(16),
+            z0: on(17),
+            allow_write: on(18),
+            local: on(19),
+            arriving: on(20),
+            arriving_byte: bytes[21],
+        }
+    }
+}
+
+#[cfg(test)]
+mod tests {
+    use super::*;
+
+    #[test]
+    fn every_channel_has_its_own_byte() {
+        for channel in 0..22 {
+            let mut bytes = [0; 22];
+            bytes[channel] = 1;
+            assert_eq!(State::from_bytes(&bytes).to_bytes(), bytes);
+        }
+        let mut bytes = [0; 22];
+        bytes[13] = 0x0A;
+        bytes[14] = 0xBC;
+        assert_eq!(State::from_bytes(&bytes).wx, 0x0ABC);
+    }
+
+    #[test]
+    fn a_latch_is_on_at_any_value_but_0() {
+        let bytes = [7; 22];
+        let mut expected = [7; 22];
+        expected[15..21].fill(1);
+        assert_eq!(State::from_bytes(&bytes).to_bytes(), expected);
+    }
+
+    #[test]
+    fn channels_by_name() {
+        let state = State { z0: true, local: true, ..State::default() };
+        let bytes = state.to_bytes();
+        let lit: Vec<usize> = (0..22).filter(|&channel| bytes[channel] == 1).collect();
+        assert_eq!(lit, [17, 19]);
+        assert_eq!([I, J, U, V, L, T, D, R, S, G, H, M, N], std::array::from_fn(|place| place));
+    }
+}
