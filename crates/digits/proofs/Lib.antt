@@ -3,3 +3,4 @@ pub mod Lines
 pub mod Refusals
 pub mod Table
 pub mod Sole
+pub mod Promises

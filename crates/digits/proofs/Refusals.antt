@@ -1,12 +1,13 @@
 -- "Given exactly when": the one law of lists of checks. Assumes nothing.
 use Prim.Native.Nat.{ℕ, zero, suc, _<_, suc-le-suc}
 use mathlib.Core.Path.{_≡_, refl, ap, subst}
-use mathlib.Core.List.{List, [], _∷_}
-use mathlib.Core.Bool.{Bool, true, false, not}
+use mathlib.Core.List.{List, [], _∷_, _++_}
+use mathlib.Core.Bool.{Bool, true, false, _&&_}
 use mathlib.Core.Logic.{_↔_}
 use native.Mathlib.Nat.{not-suc-le-zero, le-of-suc-le-suc, zero-lt-suc}
 use native.Mathlib.Omega.{arith}
-use lib.Dec.{T}
+use lib.Dec.{T, ltb, ltb→lt}
+use Rattle.digits.proofs.Table.{both-left, both-right}
 use lib.ListN.{length}
 use Rattle.digits.specs.Refusal.{Check, first, answer, numberAt, testAt, Given}
 
@@ -101,6 +102,12 @@ module _ {A : Type 0} (refused : ℕ → A) (x : A) (told : (m n : ℕ) → refu
       back zero g = absurd (never-0 cs t g)
       back (suc m) g = ap (λ (k : ℕ). answer k refused x) (given-first cs (suc m) g)
 
+-- an answer that refuses: its number is the one that was found
+pub given-number : {A : Type 0} (refused : ℕ → A) (x : A) → ((m n : ℕ) → refused m ≡ refused n → m ≡ n) → ((n : ℕ) → x ≡ refused n → ⊥)
+    → (k n : ℕ) → answer k refused x ≡ refused n → (k ≡ n) × (k ≡ 0 → ⊥)
+given-number refused x told apart zero n a = absurd (apart n a)
+given-number refused x told apart (suc k) n a = (told (suc k) n a, λ e. omega arith)
+
 -- an answer that is no refusal: no test of the list holds, and it is the answer that was to be given
 pub given-none : {A : Type 0} (refused : ℕ → A) (x y : A) → ((n : ℕ) → refused n ≡ y → ⊥)
     → (cs : List Check) → T (numbered cs) → answer (first cs) refused x ≡ y → None cs × (x ≡ y)
@@ -109,3 +116,26 @@ given-none refused x y apart cs t = by (first cs) refl
     by : (k : ℕ) → first cs ≡ k → answer k refused x ≡ y → None cs × (x ≡ y)
     by zero e a = (first-none cs t e, a)
     by (suc k) e a = absurd (apart (suc k) a)
+
+-- ---- one list after another
+
+pub append-none : (xs ys : List Check) → None xs → first (xs ++ ys) ≡ first ys
+append-none [] ys h = refl
+append-none ((n, true) ∷ xs) ys h = absurd (true-not-false refl (h .0))
+append-none ((n, false) ∷ xs) ys h = append-none xs ys (h .1)
+
+pub append-some : (xs ys : List Check) → (first xs ≡ 0 → ⊥) → first (xs ++ ys) ≡ first xs
+append-some [] ys h = absurd (h refl)
+append-some ((n, true) ∷ xs) ys h = refl
+append-some ((n, false) ∷ xs) ys h = append-some xs ys h
+
+-- ---- a bound on the numbers: at a list with its numbers written out this computes
+
+abbrev pub within : ℕ → List Check → Bool
+within k [] = true
+within k ((n, b) ∷ cs) = ltb n k && within k cs
+
+pub first-lt : (k : ℕ) (cs : List Check) → 0 < k → T (within k cs) → first cs < k
+first-lt k [] h t = h
+first-lt k ((n, true) ∷ cs) h t = ltb→lt n k (both-left (ltb n k) (within k cs) t)
+first-lt k ((n, false) ∷ cs) h t = first-lt k cs h (both-right (ltb n k) (within k cs) t)

@@ -4,7 +4,8 @@ use mathlib.Core.List.{List, [], _∷_, map, _++_}
 use mathlib.Core.Bool.{Bool, _&&_, _||_}
 use lib.Dec.{eqb, ltb}
 use Rattle.digits.specs.Line.{onesOf}
-use Rattle.word.specs.Layout.{field, CN, PN, PA, CH, CL, CM, CU, CA, AA, CB, CK, PK, PS, CD, CF, CG, CV, CC, CS, AS, PC}
+use Rattle.word.specs.Layout.{field, named, CN, PN, PA, CH, CL, CM, CU, CA, AA, CB, CK, PK, PS, CD, CF, CG, CV, CC, CS, AS, PC}
+use Rattle.word.specs.declared.Fields.{Fields}
 
 -- an even number of ones is wrong
 abbrev pub wrong : List ℕ → Bool
@@ -51,13 +52,13 @@ abbrev pub pcWrong : List ℕ → Bool
 pcWrong l = wrong (covered pcCovers PC l)
 
 -- "where CL = 2": CA is a module number, for W
-abbrev pub caToW : List ℕ → Bool
-caToW l = eqb (field l CL) 2
+abbrev pub caToW : Fields → Bool
+caToW f = eqb (f .cl) 2
 
 -- "the word sends K to W": "With CM 0 to 2 .. CU 2 sends CK to W."
-abbrev pub kToW : List ℕ → Bool
-kToW l = ltb (field l CM) 3 && eqb (field l CU) 2
+abbrev pub kToW : Fields → Bool
+kToW f = ltb (f .cm) 3 && eqb (f .cu) 2
 
 -- "PK covers CA and AA where CL = 2, and CK where the word sends K to W; elsewhere PK is free."
 abbrev pub pkWrong : List ℕ → Bool
-pkWrong l = caToW l && wrong (covered (CA ∷ AA ∷ []) PK l) || kToW l && wrong (covered (CK ∷ []) PK l)
+pkWrong l = caToW (named l) && wrong (covered (CA ∷ AA ∷ []) PK l) || kToW (named l) && wrong (covered (CK ∷ []) PK l)

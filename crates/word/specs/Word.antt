@@ -15,7 +15,7 @@ use Rattle.word.specs.declared.Packed.the-variants as P
 
 -- 8: CL = 2 and K to W in one word; 9: PK wrong where it covers something
 abbrev pub kChecks : List ℕ → List Check
-kChecks l = (8, caToW l && kToW l) ∷ (9, pkWrong l) ∷ []
+kChecks l = (8, caToW (named l) && kToW (named l)) ∷ (9, pkWrong l) ∷ []
 
 -- 3: one of the top nine bits set; 4, 5, 6, 7: PN, PA, PS, PC wrong; then 8 and 9. l is the word's line
 abbrev pub faultChecks : ℕ → ℕ → List ℕ → List Check

@@ -115,14 +115,14 @@ fn pc_wrong(word: u64) -> bool
 
 // CL = 2: CA is a module number, for W.
 fn ca_to_w(word: u64) -> bool
-    ensures { λ r. ⌜ r ≡ caToW (lineOf word) ⌝ }
+    ensures { λ r. ⌜ r ≡ caToW (fieldsOf word) ⌝ }
 {
     word / 0x80_0000_0000 % 16 == 2
 }
 
 // The word sends K to W.
 fn k_to_w(word: u64) -> bool
-    ensures { λ r. ⌜ r ≡ kToW (lineOf word) ⌝ }
+    ensures { λ r. ⌜ r ≡ kToW (fieldsOf word) ⌝ }
 {
     (word / 0x10_0000_0000 % 8 < 3) & (word / 0x4_0000_0000 % 4 == 2)
 }

@@ -1,0 +1,4 @@
+pub mod Gates
+pub mod Laws
+pub mod Promises
+pub mod ByTable

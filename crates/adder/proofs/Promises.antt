@@ -1,0 +1,8 @@
+-- No second answer fits. Assumes nothing.
+use mathlib.Core.Path.{_≡_}
+use Rattle.digits.proofs.Sole.{sole}
+use Rattle.adder.specs.declared.Sum.{Sum}
+use Rattle.adder.proofs.add.Reads as add
+
+pub add-sole : (κs : _) (args : _) (r s : Sum) (x y : _) → add.Post κs args r x → add.Post κs args s y → r ≡ s
+add-sole κs args r s x y p q = sole p q

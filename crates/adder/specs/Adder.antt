@@ -1,0 +1,108 @@
+-- The sum of A and B as gated, its correction, and the logical operations. A code beyond its field's width acts as code 0. Assumes nothing.
+use Prim.Native.Nat.{ℕ, _+_, _-_, _%_}
+use mathlib.Core.List.{List, [], _∷_}
+use mathlib.Core.Bool.{Bool, true, false, cond, not, _&&_}
+use lib.Bits.{bitAnd, bitOr, bitXor}
+use lib.Dec.{eqb, leb}
+use lib.ListN.{getD}
+use Rattle.digits.specs.Bits.{one}
+use Rattle.digits.specs.Digits.{high, low, digits}
+use Rattle.adder.specs.Gates.{gatedA, gatedB}
+use Rattle.adder.specs.declared.Controls.{Controls}
+use Rattle.adder.specs.declared.Uncorrected.{Uncorrected}
+use Rattle.adder.specs.declared.Sum.{Sum}
+
+-- "CV: 0 true, 1 complement, 2 true or complement as S0 is 0 or 1, 3 the same choice with decimal."
+abbrev pub isComplement : ℕ → Bool → Bool
+isComplement cv s0 = getD (false ∷ true ∷ s0 ∷ s0 ∷ []) cv false
+
+abbrev pub isDecimal : ℕ → Bool
+isDecimal cv = eqb cv 3
+
+-- "Complement turns every bit of gated B."
+abbrev pub complement : ℕ → ℕ
+complement b = 255 - b
+
+-- B after the complement, where there is one
+abbrev pub turned : Bool → ℕ → ℕ
+turned complemented b = cond complemented (complement b) b
+
+-- "Decimal true adds six to each digit of B, modulo 16 in each digit"
+abbrev pub sixes : ℕ → ℕ
+sixes b = digits ((high b + 6) % 16) ((low b + 6) % 16)
+
+-- B as it enters the adder: "decimal complement adds none, since 15 less a digit already carries it."
+abbrev pub entering : Bool → Bool → ℕ → ℕ
+entering decimal complemented b = cond (decimal && not complemented) (sixes b) (turned complemented b)
+
+-- "The sum is A + B + carry in. AC is set at 256 or more; 1BC when the low seven bits with the carry in reach 128."
+abbrev pub summed : Bool → ℕ → ℕ → ℕ → Uncorrected
+summed decimal a b carry =
+    record {
+      byte = (a + b + carry) % 256;
+      ac = leb 256 (a + b + carry);
+      «one_bc» = leb 128 (a % 128 + b % 128 + carry);
+      «digit_carry» = leb 16 (low a + low b + carry);
+      decimal = decimal;
+    }
+
+-- "In decimal, each digit with no carry out is then lowered by six modulo 16."
+abbrev pub lowered : Bool → ℕ → ℕ
+lowered carried digit = cond carried digit ((digit + 10) % 16)
+
+-- the byte of a sum, by the carries out of its low and its high digit
+abbrev pub corrected : Bool → Bool → ℕ → ℕ
+corrected lowCarry highCarry byte = digits (lowered highCarry (high byte)) (lowered lowCarry (low byte))
+
+abbrev pub correctedOf : Uncorrected → ℕ
+correctedOf u = corrected (u .«digit_carry») (u .ac) (u .byte)
+
+abbrev pub resultOf : Uncorrected → ℕ
+resultOf u = cond (u .decimal) (correctedOf u) (u .byte)
+
+-- the answer. "Z0 is set when the final result is 0."
+abbrev pub finished : Uncorrected → Sum
+finished u =
+    record {
+      result = resultOf u;
+      ac = u .ac;
+      «one_bc» = u .«one_bc»;
+      z0 = eqb (resultOf u) 0;
+      uncorrected = u .byte;
+      «digit_carry» = u .«digit_carry»;
+    }
+
+-- of A as gated, B as it enters the adder, and the carry in
+unfoldable pub arithmetic : Bool → ℕ → ℕ → ℕ → Sum
+arithmetic decimal a b carry = finished (summed decimal a b carry)
+
+-- "Logical operations .. make no decimal change, and set AC and 1BC to 0."
+abbrev pub uncarried : ℕ → Uncorrected
+uncarried byte = record { byte = byte; ac = false; «one_bc» = false; «digit_carry» = false; decimal = false }
+
+abbrev pub logical : ℕ → Sum
+logical byte = finished (uncarried byte)
+
+-- "CC: 0 +0, 1 +1, 2 AND, 3 OR, 4 +0 save, 5 +1 save, 6 +S3 save, 7 XOR." "Logical operations use B after the complement"
+abbrev pub operations : Bool → Bool → ℕ → ℕ → ℕ → List Sum
+operations s3 decimal a turnedB enteringB =
+    arithmetic decimal a enteringB 0 ∷  -- 0
+    arithmetic decimal a enteringB 1 ∷  -- 1
+    logical (bitAnd a turnedB) ∷  -- 2
+    logical (bitOr a turnedB) ∷  -- 3
+    arithmetic decimal a enteringB 0 ∷  -- 4
+    arithmetic decimal a enteringB 1 ∷  -- 5
+    arithmetic decimal a enteringB (one s3) ∷  -- 6
+    logical (bitXor a turnedB) ∷  -- 7
+    []
+
+abbrev pub operated : ℕ → Bool → Bool → ℕ → ℕ → ℕ → Sum
+operated cc s3 decimal a turnedB enteringB = getD (operations s3 decimal a turnedB enteringB) cc (arithmetic decimal a enteringB 0)
+
+-- what the arithmetic unit makes of the bytes that CA and CB chose
+unfoldable pub sumOf : ℕ → ℕ → Controls → Sum
+sumOf a b c =
+    let decimal : Bool = isDecimal (c .cv) in
+    let complemented : Bool = isComplement (c .cv) (c .s0) in
+    let gated : ℕ = gatedB (c .cg) b in
+    operated (c .cc) (c .s3) decimal (gatedA (c .cf) a) (turned complemented gated) (entering decimal complemented gated)

@@ -1,0 +1,21 @@
+-- No second answer fits: two results that meet one contract at the same arguments are the same. Assumes nothing.
+use Prim.Native.Nat.{ℕ}
+use mathlib.Core.Path.{_≡_}
+use mathlib.Core.Bool.{Bool}
+use Rattle.digits.proofs.Sole.{sole}
+use Rattle.digits.proofs.bit.Reads as bit
+use Rattle.digits.proofs.with_bit.Reads as with-bit
+use Rattle.digits.proofs.both_decimal.Reads as both-decimal
+use Rattle.digits.proofs.first_of.Reads as first-of
+
+pub bit-sole : (κs : _) (args : _) (r q : Bool) (x y : _) → bit.Post κs args r x → bit.Post κs args q y → r ≡ q
+bit-sole κs args r q x y a b = sole a b
+
+pub with-bit-sole : (κs : _) (args : _) (r q : ℕ) (x y : _) → with-bit.Post κs args r x → with-bit.Post κs args q y → r ≡ q
+with-bit-sole κs args r q x y a b = sole a b
+
+pub both-decimal-sole : (κs : _) (args : _) (r q : Bool) (x y : _) → both-decimal.Post κs args r x → both-decimal.Post κs args q y → r ≡ q
+both-decimal-sole κs args r q x y a b = sole a b
+
+pub first-of-sole : (κs : _) (args : _) (r q : ℕ) (x y : _) → first-of.Post κs args r x → first-of.Post κs args q y → r ≡ q
+first-of-sole κs args r q x y a b = sole a b

@@ -1,0 +1,118 @@
+-- One cycle, by what its checks find. Assumes nothing.
+use Prim.Native.Nat.{ℕ, zero, suc, _+_, _<_, _≤_}
+use mathlib.Core.Path.{_≡_, refl, sym, ap, subst, _∙_}
+use mathlib.Core.List.{List, _++_}
+use mathlib.Core.Bool.{Bool, true, false, _||_}
+use native.Mathlib.Omega.{arith}
+use borrow.Author.Tests.{ltb-false, leb-false, eqb-true, ne-eqb, not-false}
+use lib.Dec.{leb, ltb, eqb}
+use lib.ListN.{length}
+use Rattle.digits.specs.Refusal.{Check, first}
+use Rattle.digits.proofs.Refusals.{first-none, append-none, append-some, first-lt}
+use Rattle.word.specs.Layout.{lineOf, fieldsOf}
+use Rattle.word.specs.Word.{faultChecks, faultOf, takenApart}
+use Rattle.word.specs.declared.Fields.{Fields}
+use Rattle.word.specs.declared.Apart.the-variants as A
+use Rattle.adder.specs.declared.Sum.{Sum}
+use Rattle.word.proofs.Trips.{apart-fields, apart-refused}
+use Rattle.machine.specs.Sources.{entered, sumIn}
+use Rattle.machine.specs.Storage.{accessOf, outside, fetchedOf, mainAfter, localAfter}
+use Rattle.machine.specs.declared.Access.{Access}
+use Rattle.machine.specs.Modelled.{unmodelledOf}
+use Rattle.machine.specs.Cycle.{outcome, sizesWrong, stops, accessIn, stepChecks, cycleChecks, wordAt, after, ranOf, decided, stepOf, cycleOf}
+use Rattle.machine.specs.declared.State.{State}
+use Rattle.machine.specs.declared.Cycled.the-variants.{Ran, Stopped, Refused}
+
+-- ---- from the fields on
+
+module _ (f : Fields) (main local : List ℕ) (s : State) where
+  pub on-stop : stops f ≡ true → stepOf f main local s ≡ outcome (Stopped s) main local
+  on-stop e = rw e
+
+  pub on-10 : stops f ≡ false → (unmodelledOf f ≡ 0 → ⊥) → stepOf f main local s ≡ outcome (Refused s 10 (unmodelledOf f)) main local
+  on-10 e u = rw (e, ne-eqb (unmodelledOf f) 0 u)
+
+  module _ (e : stops f ≡ false) (u : unmodelledOf f ≡ 0) where
+    pub on-11 : outside (length main) (accessIn f s) ≡ true → stepOf f main local s ≡ outcome (Refused s 11 0) main local
+    on-11 o = rw (e, u, o)
+
+    pub on-ran : outside (length main) (accessIn f s) ≡ false → stepOf f main local s ≡ ranOf f main local s
+    on-ran o = rw (e, u, o)
+
+-- what runs, put together from its parts
+pub ran-is : (f : Fields) (main local main′ local′ : List ℕ) (s e t : State) (a : Access) (z : Sum) (b : ℕ)
+    → e ≡ entered f s → a ≡ accessOf f e → z ≡ sumIn f e → b ≡ fetchedOf main local a → t ≡ after f z a b e
+    → main′ ≡ mainAfter main a (e .r) → local′ ≡ localAfter local a (e .r) → outcome (Ran t) main′ local′ ≡ ranOf f main local s
+unfolding ranOf
+ran-is f main local main′ local′ s e t a z b pe pa pz pb pt pm pl = rw (pt, pm, pl, pb, pz, pa, pe)
+
+-- ---- the whole cycle
+
+-- the fields of a word are in their widths
+pub fields-small : (w a : ℕ) (f : Fields) → takenApart w a ≡ A.Fields f → (f .cn < 64) × (f .ck < 16)
+fields-small w a f e = subst (λ (g : Fields). (g .cn < 64) × (g .ck < 16)) (apart-fields w a f e .1) (omega arith)
+
+or-false : (a b : Bool) → a || b ≡ false → (a ≡ false) × (b ≡ false)
+or-false true b h = let z : _≡_ {A = ℕ} 0 1 = cc in absurd (omega arith)
+or-false false b h = (refl, h)
+
+-- a store of the right size has addresses of 12 bits
+pub address-fits : (store main local wx : ℕ) → sizesWrong store main local ≡ false → leb store wx ≡ false → wx ≤ 4095
+address-fits store main local wx h l =
+    let (a, b) = or-false (eqb store 0) _ h in
+    let (d, e) = or-false (ltb 4096 store) _ b in
+    omega (arith, ltb-false 4096 store d, leb-false store wx l)
+
+pub local-fits : (store main local : ℕ) → sizesWrong store main local ≡ false → local ≡ 256
+local-fits store main local h =
+    let (_, b) = or-false (eqb store 0) _ h in
+    let (_, c) = or-false (ltb 4096 store) _ b in
+    let (_, d) = or-false (eqb main 0) _ c in
+    let (_, e) = or-false (ltb 65536 main) _ d in
+    eqb-true local 256 (not-false (eqb local 256) e)
+
+decided-refused : (n : ℕ) (f : Fields) (main local : List ℕ) (s : State) → n < 10 → (n ≡ 0 → ⊥) → decided n (stops f) f main local s ≡ outcome (Refused s n 0) main local
+decided-refused zero f main local s h z = absurd (z refl)
+decided-refused (suc n) f main local s h z = rw (ne-eqb (suc n) 10 (λ e. omega arith))
+
+module _ (store main local : List ℕ) (s : State) where
+  pub on-1 : sizesWrong (length store) (length main) (length local) ≡ true → cycleOf store main local s ≡ outcome (Refused s 1 0) main local
+  unfolding cycleOf
+  on-1 e = rw e
+
+  module _ (sizes : sizesWrong (length store) (length main) (length local) ≡ false) where
+    pub on-2 : leb (length store) (s .wx) ≡ true → cycleOf store main local s ≡ outcome (Refused s 2 0) main local
+    unfolding cycleOf
+    on-2 e = rw (sizes, e)
+
+    module _ (inside : leb (length store) (s .wx) ≡ false) where
+      -- past 1 and 2
+      late : first (cycleChecks store main local s) ≡ first (faultChecks (wordAt store s) (s .wx) (lineOf (wordAt store s)) ++ stepChecks (fieldsOf (wordAt store s)) (length main) s)
+      late = rw (sizes, inside)
+
+      pub on-fault : (faultOf (wordAt store s) (s .wx) ≡ 0 → ⊥) → cycleOf store main local s ≡ outcome (Refused s (faultOf (wordAt store s) (s .wx)) 0) main local
+      unfolding cycleOf faultOf
+      on-fault z =
+          let f : Fields = fieldsOf (wordAt store s) in
+          let faults : List Check = faultChecks (wordAt store s) (s .wx) (lineOf (wordAt store s)) in
+          ap (λ (n : ℕ). decided n (stops f) f main local s) (late ∙ append-some faults (stepChecks f (length main) s) z)
+          ∙ decided-refused (first faults) f main local s (first-lt 10 faults (omega arith) tt) z
+
+      pub on-fields : faultOf (wordAt store s) (s .wx) ≡ 0 → cycleOf store main local s ≡ stepOf (fieldsOf (wordAt store s)) main local s
+      unfolding cycleOf faultOf
+      on-fields e =
+          let f : Fields = fieldsOf (wordAt store s) in
+          let faults : List Check = faultChecks (wordAt store s) (s .wx) (lineOf (wordAt store s)) in
+          ap (λ (n : ℕ). decided n (stops f) f main local s) (late ∙ append-none faults (stepChecks f (length main) s) (first-none faults tt e))
+
+-- by what taking the word apart answers
+module _ (store main local : List ℕ) (s : State) (sizes : sizesWrong (length store) (length main) (length local) ≡ false) (inside : leb (length store) (s .wx) ≡ false) where
+  pub on-refused : (n : ℕ) → takenApart (wordAt store s) (s .wx) ≡ A.Refused n → outcome (Refused s n 0) main local ≡ cycleOf store main local s
+  on-refused n e =
+      let (same, some) = apart-refused (wordAt store s) (s .wx) n (address-fits (length store) (length main) (length local) (s .wx) sizes inside) e in
+      ap (λ (k : ℕ). outcome (Refused s k 0) main local) (sym same) ∙ sym (on-fault store main local s sizes inside some)
+
+  pub on-apart : (f : Fields) → takenApart (wordAt store s) (s .wx) ≡ A.Fields f → stepOf f main local s ≡ cycleOf store main local s
+  on-apart f e =
+      let (none, same) = apart-fields (wordAt store s) (s .wx) f e in
+      ap (λ (g : Fields). stepOf g main local s) (sym same) ∙ sym (on-fields store main local s sizes inside none)

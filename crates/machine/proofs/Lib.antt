@@ -1,0 +1,5 @@
+mod Arms
+mod Inside
+mod Scan
+pub mod Cycles
+pub mod Promises

@@ -1,0 +1,140 @@
+-- "One cycle", in the paper's order. Assumes nothing.
+use Prim.Native.Nat.{ℕ, zero, suc}
+use mathlib.Core.List.{List, [], _∷_, _++_}
+use mathlib.Core.Bool.{Bool, true, false, cond, not, _&&_, _||_}
+use lib.Dec.{eqb, leb, ltb}
+use lib.ListN.{getD, length}
+use Rattle.digits.specs.Refusal.{Check, first}
+use Rattle.word.specs.Layout.{lineOf, fieldsOf}
+use Rattle.word.specs.Word.{faultChecks, takenApart}
+use Rattle.word.specs.declared.Apart.{Apart}
+use Rattle.word.specs.declared.Apart.the-variants as A
+use Rattle.word.specs.declared.Fields.{Fields}
+use Rattle.adder.specs.declared.Sum.{Sum}
+use Rattle.machine.specs.Sources.{entered, sumIn}
+use Rattle.machine.specs.Branch.{nextOf}
+use Rattle.machine.specs.Storage.{accessOf, outside, fetchedOf, mainAfter, localAfter}
+use Rattle.machine.specs.Status.{into, statusOf}
+use Rattle.machine.specs.Modelled.{unmodelledOf}
+use Rattle.machine.specs.declared.State.{State}
+use Rattle.machine.specs.declared.Access.{Access}
+use Rattle.machine.specs.declared.Cycled.{Cycled}
+use Rattle.machine.specs.declared.Cycled.the-variants.{Ran, Stopped, Refused}
+use Rattle.machine.specs.declared.NextSum.{NextSum}
+use Rattle.machine.specs.declared.NextSum.the-variants.{Sums, Nothing}
+
+-- an answer, and both storages as they then are
+pub record Outcome : Type 0 where
+  pub answer : Cycled
+  pub main : List ℕ
+  pub local : List ℕ
+
+abbrev pub outcome : Cycled → List ℕ → List ℕ → Outcome
+outcome answer main local = record { answer = answer; main = main; local = local }
+
+-- 1: "main storage empty or over 65,536; local not 256 bytes"
+abbrev pub storageWrong : ℕ → ℕ → Bool
+storageWrong main local = eqb main 0 || (ltb 65536 main || not (eqb local 256))
+
+-- 1: "word store empty or over 4,096", or the storages
+abbrev pub sizesWrong : ℕ → ℕ → ℕ → Bool
+sizesWrong store main local = eqb store 0 || (ltb 4096 store || storageWrong main local)
+
+-- "4 stop"
+abbrev pub stops : Fields → Bool
+stops f = eqb (f .cf) 4
+
+-- what storage is to do, decided after the arriving byte is in R
+abbrev pub accessIn : Fields → State → Access
+accessIn f s = accessOf f (entered f s)
+
+-- "Stop is decided after 9 and before 10"
+abbrev pub stepChecks : Fields → ℕ → State → List Check
+stepChecks f main s =
+    (10, not (stops f) && not (eqb (unmodelledOf f) 0)) ∷
+    (11, not (stops f) && outside main (accessIn f s)) ∷
+    []
+
+abbrev pub wordAt : List ℕ → State → ℕ
+wordAt store s = getD store (s .wx) 0
+
+-- the refusals in the order checked: 1, 2, 3 to 9, 10, 11
+abbrev pub cycleChecks : List ℕ → List ℕ → List ℕ → State → List Check
+cycleChecks store main local s =
+    (1, sizesWrong (length store) (length main) (length local)) ∷
+    (2, leb (length store) (s .wx)) ∷
+    (faultChecks (wordAt store s) (s .wx) (lineOf (wordAt store s)) ++ stepChecks (fieldsOf (wordAt store s)) (length main) s)
+
+-- "e. The result goes to the CD register; then CS changes S; then S3 takes the new AC if CC saves it. Last, WX."
+-- s has the arriving byte in R, z is the adder's answer, a is what storage does
+abbrev pub after : Fields → Sum → Access → ℕ → State → State
+after f z a fetched s =
+    record {
+      -- "CD: 0 nowhere, 5 H, 6 S, 7 R, and 8 to 15 as CA"
+      i = into 15 (f .cd) (z .result) (s .i);
+      j = into 14 (f .cd) (z .result) (s .j);
+      u = into 13 (f .cd) (z .result) (s .u);
+      v = into 12 (f .cd) (z .result) (s .v);
+      l = into 9 (f .cd) (z .result) (s .l);
+      t = into 11 (f .cd) (z .result) (s .t);
+      d = into 8 (f .cd) (z .result) (s .d);
+      r = into 7 (f .cd) (z .result) (s .r);
+      s = statusOf f z (into 6 (f .cd) (z .result) (s .s));
+      g = into 10 (f .cd) (z .result) (s .g);
+      h = into 5 (f .cd) (z .result) (s .h);
+      m = a .m;
+      n = a .n;
+      wx = nextOf f s;
+      -- "AC, 1BC and Z0 are set from it."
+      ac = z .ac;
+      «one_bc» = z .«one_bc»;
+      z0 = z .z0;
+      «allow_write» = a .latch;
+      «local_selected» = a .local;
+      arriving = a .fetches;
+      «arriving_byte» = fetched;
+    }
+
+-- a to e: what the fields do
+unfoldable pub ranOf : Fields → List ℕ → List ℕ → State → Outcome
+ranOf f main local s =
+    let e : State = entered f s in
+    let a : Access = accessOf f e in
+    outcome (Ran (after f (sumIn f e) a (fetchedOf main local a) e)) (mainAfter main a (e .r)) (localAfter local a (e .r))
+
+-- 10 comes with its field, every other number with 0
+abbrev pub fieldOf : ℕ → Fields → ℕ
+fieldOf number f = cond (eqb number 10) (unmodelledOf f) 0
+
+-- "A cycle answers ran, stopped or refused, each with its state." Stop and "refusals change nothing"
+abbrev pub decided : ℕ → Bool → Fields → List ℕ → List ℕ → State → Outcome
+decided (suc number) stop f main local s = outcome (Refused s (suc number) (fieldOf (suc number) f)) main local
+decided zero true f main local s = outcome (Stopped s) main local
+decided zero false f main local s = ranOf f main local s
+
+-- from the fields on
+abbrev pub stepOf : Fields → List ℕ → List ℕ → State → Outcome
+stepOf f main local s = decided (first (stepChecks f (length main) s)) (stops f) f main local s
+
+unfoldable pub cycleOf : List ℕ → List ℕ → List ℕ → State → Outcome
+cycleOf store main local s =
+    let f : Fields = fieldsOf (wordAt store s) in
+    decided (first (cycleChecks store main local s)) (stops f) f main local s
+
+-- the paper's number of each answer, 0 where it does not refuse
+abbrev pub numberOf : Cycled → ℕ
+numberOf (Ran t) = 0
+numberOf (Stopped t) = 0
+numberOf (Refused t number field) = number
+
+-- what the adder answers for a word that does not stop
+abbrev pub sumBy : Fields → State → NextSum
+sumBy f s = cond (stops f) Nothing (Sums (sumIn f (entered f s)))
+
+-- and for the word that would run next, where it stands in the store and is not refused by 3 to 9
+abbrev pub nextBy : Apart → State → NextSum
+nextBy (A.Refused number) s = Nothing
+nextBy (A.Fields f) s = sumBy f s
+
+unfoldable pub nextSumOf : List ℕ → State → NextSum
+nextSumOf store s = cond (leb (length store) (s .wx)) Nothing (nextBy (takenApart (wordAt store s) (s .wx)) s)

@@ -1,0 +1,191 @@
+// The machine: its state, and one cycle of it.
+mod branch;
+mod modelled;
+mod sources;
+mod status;
+mod storage;
+mod tables;
+
+ghost use mathlib.Core.Path.{_≡_};
+ghost use Prim.Native.Nat.{_<_};
+ghost use lib.ListN.{length};
+ghost use Rattle.machine.specs.Cycle.{outcome, storageWrong, sizesWrong, after, stepOf, cycleOf, sumBy, nextSumOf};
+use adder::Sum;
+use word::Apart;
+use word::Fields;
+
+// What the lamps show. With nothing arriving the arriving byte means nothing.
+pub struct State {
+    pub i: u8,
+    pub j: u8,
+    pub u: u8,
+    pub v: u8,
+    pub l: u8,
+    pub t: u8,
+    pub d: u8,
+    pub r: u8,
+    pub s: u8,
+    pub g: u8,
+    pub h: u8,
+    pub m: u8,
+    pub n: u8,
+    pub wx: u16,
+    pub ac: bool,
+    pub one_bc: bool,
+    pub z0: bool,
+    pub allow_write: bool,
+    pub local_selected: bool,
+    pub arriving: bool,
+    pub arriving_byte: u8,
+}
+
+// d. The address, the kind and the latch after the word, and what storage is to do.
+pub struct Access {
+    pub m: u8,
+    pub n: u8,
+    pub local: bool,
+    pub latch: bool,
+    pub fetches: bool,
+    pub puts: bool,
+}
+
+// A refusal has its number and, where that is 10, the field's place in the word.
+pub enum Cycled {
+    Ran(State),
+    Stopped(State),
+    Refused(State, u8, u8),
+}
+
+// What the adder answers for a word, or nothing where no word would run.
+pub enum NextSum {
+    Sums(Sum),
+    Nothing,
+}
+
+// e. The state after the word. `s` has the arriving byte in R.
+fn after(f: Fields, z: Sum, a: Access, fetched: u8, s: State) -> State
+    requires { ⌜ f .cn < 64 ⌝ }
+    ensures { λ r. ⌜ r ≡ after f z a fetched s ⌝ }
+{
+    State {
+        i: status::into(15, f.cd, z.result, s.i),
+        j: status::into(14, f.cd, z.result, s.j),
+        u: status::into(13, f.cd, z.result, s.u),
+        v: status::into(12, f.cd, z.result, s.v),
+        l: status::into(9, f.cd, z.result, s.l),
+        t: status::into(11, f.cd, z.result, s.t),
+        d: status::into(8, f.cd, z.result, s.d),
+        r: status::into(7, f.cd, z.result, s.r),
+        s: status::status(f, z, status::into(6, f.cd, z.result, s.s)),
+        g: status::into(10, f.cd, z.result, s.g),
+        h: status::into(5, f.cd, z.result, s.h),
+        m: a.m,
+        n: a.n,
+        wx: branch::next_of(f, s),
+        ac: z.ac,
+        one_bc: z.one_bc,
+        z0: z.z0,
+        allow_write: a.latch,
+        local_selected: a.local,
+        arriving: a.fetches,
+        arriving_byte: fetched,
+    }
+}
+
+// 1, of main and local storage.
+pub fn storage_wrong(main: usize, local: usize) -> bool
+    ensures { λ r. ⌜ r ≡ storageWrong main local ⌝ }
+{
+    (main == 0) | ((65536 < main) | (local != 256))
+}
+
+// 1, of the word store too.
+pub fn sizes_wrong(store: usize, main: usize, local: usize) -> bool
+    ensures { λ r. ⌜ r ≡ sizesWrong store main local ⌝ }
+{
+    (store == 0) | ((4096 < store) | storage_wrong(main, local))
+}
+
+// What the fields of a word do: decide everything, then make at most one store.
+fn step(by_table: bool, f: Fields, main: &mut [u8], local: &mut [u8], s: State) -> Cycled
+    requires { ⌜ (f .cn < 64) × ((f .ck < 16) × (length (now local) ≡ 256)) ⌝ }
+    ensures { λ r. ⌜ outcome r (now (main .exit)) (now (local .exit)) ≡ stepOf f (now (main .entry)) (now (local .entry)) s ⌝ }
+{
+    if f.cf == 4 {
+        return Cycled::Stopped(s);
+    }
+    let field = modelled::unmodelled(f);
+    if field != 0 {
+        return Cycled::Refused(s, 10, field);
+    }
+    let entered = sources::enter(f, s);
+    let access = storage::access_of(f, entered);
+    if storage::is_outside(main.len(), access) {
+        return Cycled::Refused(s, 11, 0);
+    }
+    let z = sources::sum_in(by_table, f, entered);
+    let fetched = storage::fetched(main, local, access);
+    storage::put(main, local, access, entered.r);
+    Cycled::Ran(after(f, z, access, fetched, entered))
+}
+
+fn cycle_with(
+    by_table: bool,
+    store: &[u64],
+    main: &mut [u8],
+    local: &mut [u8],
+    state: State,
+) -> Cycled
+    ensures { λ r. ⌜ outcome r (now (main .exit)) (now (local .exit)) ≡ cycleOf (now (store .entry)) (now (main .entry)) (now (local .entry)) state ⌝ }
+{
+    if sizes_wrong(store.len(), main.len(), local.len()) {
+        return Cycled::Refused(state, 1, 0);
+    }
+    let at = state.wx as usize;
+    if store.len() <= at {
+        return Cycled::Refused(state, 2, 0);
+    }
+    match word::take_apart(store[at], state.wx as u32) {
+        Apart::Refused(number) => Cycled::Refused(state, number, 0),
+        Apart::Fields(f) => step(by_table, f, main, local, state),
+    }
+}
+
+// One cycle, the sum corrected by the digit rules.
+pub fn cycle(store: &[u64], main: &mut [u8], local: &mut [u8], state: State) -> Cycled
+    ensures { λ r. ⌜ outcome r (now (main .exit)) (now (local .exit)) ≡ cycleOf (now (store .entry)) (now (main .entry)) (now (local .entry)) state ⌝ }
+{
+    cycle_with(false, store, main, local, state)
+}
+
+// One cycle, the sum corrected by the table.
+pub fn cycle_by_table(store: &[u64], main: &mut [u8], local: &mut [u8], state: State) -> Cycled
+    ensures { λ r. ⌜ outcome r (now (main .exit)) (now (local .exit)) ≡ cycleOf (now (store .entry)) (now (main .entry)) (now (local .entry)) state ⌝ }
+{
+    cycle_with(true, store, main, local, state)
+}
+
+// The sum, before and after correction, of the word that would run next.
+pub fn next_sum(store: &[u64], state: State) -> NextSum
+    ensures { λ r. ⌜ r ≡ nextSumOf (now (store .entry)) state ⌝ }
+{
+    let at = state.wx as usize;
+    if store.len() <= at {
+        return NextSum::Nothing;
+    }
+    match word::take_apart(store[at], state.wx as u32) {
+        Apart::Refused(_) => NextSum::Nothing,
+        Apart::Fields(f) => sum_of(f, state),
+    }
+}
+
+// The sum of a word that has its fields and does not stop.
+fn sum_of(f: Fields, s: State) -> NextSum
+    requires { ⌜ f .ck < 16 ⌝ }
+    ensures { λ r. ⌜ r ≡ sumBy f s ⌝ }
+{
+    if f.cf == 4 {
+        return NextSum::Nothing;
+    }
+    NextSum::Sums(sources::sum_in(false, f, sources::enter(f, s)))
+}

@@ -1,0 +1,92 @@
+// What a word finds: the arriving byte in R, and the adder's two sources.
+ghost use mathlib.Core.Path.{_≡_};
+ghost use Prim.Native.Nat.{_<_};
+ghost use Rattle.machine.specs.Sources.{entered, aSource, bSource, sumIn};
+use crate::State;
+use adder::Controls;
+use adder::Sum;
+use digits::bit;
+use word::Fields;
+
+// a. An arriving byte enters R, unless CM is Store.
+pub(crate) fn enter(f: Fields, s: State) -> State
+    ensures { λ r. ⌜ r ≡ entered f s ⌝ }
+{
+    let r = if s.arriving & (f.cm != 2) {
+        s.arriving_byte
+    } else {
+        s.r
+    };
+    State {
+        r: r,
+        arriving: false,
+        arriving_byte: 0,
+        ..s
+    }
+}
+
+// The byte that CA names, or zero where CA is a module number.
+fn a_source(f: Fields, s: State) -> u8
+    ensures { λ r. ⌜ r ≡ aSource f s ⌝ }
+{
+    if f.cl == 2 {
+        return 0;
+    }
+    crate::tables::byte_at(
+        [
+            0,
+            0,
+            0,
+            0,
+            s.s,
+            s.h,
+            0,
+            s.r,
+            s.d,
+            s.l,
+            s.g,
+            s.t,
+            s.v,
+            s.u,
+            s.j,
+            s.i,
+        ],
+        f.ca,
+    )
+}
+
+// The byte that CB names.
+fn b_source(f: Fields, s: State) -> u8
+    requires { ⌜ f .ck < 16 ⌝ }
+    ensures { λ r. ⌜ r ≡ bSource f s ⌝ }
+{
+    let cb = f.cb;
+    match cb {
+        0 => s.r,
+        1 => s.l,
+        2 => s.d,
+        3 => f.ck * 16 + f.ck,
+        _ => 0,
+    }
+}
+
+// c. The adder's whole answer, by the rule or by the table.
+pub(crate) fn sum_in(by_table: bool, f: Fields, s: State) -> Sum
+    requires { ⌜ f .ck < 16 ⌝ }
+    ensures { λ r. ⌜ r ≡ sumIn f s ⌝ }
+{
+    let a = a_source(f, s);
+    let b = b_source(f, s);
+    let controls = Controls {
+        cf: f.cf,
+        cg: f.cg,
+        cv: f.cv,
+        cc: f.cc,
+        s0: bit(s.s, 0),
+        s3: bit(s.s, 3),
+    };
+    if by_table {
+        return adder::add_by_table(a, b, controls);
+    }
+    adder::add(a, b, controls)
+}

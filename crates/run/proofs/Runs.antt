@@ -1,0 +1,57 @@
+-- One turn of a run, by what its cycle answered. Assumes nothing.
+use Prim.Native.Nat.{ℕ, zero, suc, _+_, _-_, _<_}
+use mathlib.Core.Path.{_≡_, refl, sym, ap, _∙_}
+use mathlib.Core.List.{List}
+use native.Mathlib.Omega.{arith}
+use lib.ListN.{length}
+use Rattle.digits.specs.Refusal.{first}
+use Rattle.machine.specs.Cycle.{Outcome, outcome, cycleOf}
+use Rattle.machine.specs.declared.State.{State}
+use Rattle.machine.specs.declared.Cycled.{Cycled}
+use Rattle.machine.specs.declared.Cycled.the-variants as C
+use Rattle.run.specs.Run.{ended, onward, cyclesOf, runChecks, runBy, runOf}
+use Rattle.run.specs.declared.Ending.the-variants.{Stopped, Refused, Spent}
+
+pub spent : (store main local : List ℕ) (s : State) (n : ℕ) → cyclesOf 0 store main local s n ≡ ended Spent s n main local
+unfolding cyclesOf
+spent store main local s n = refl
+
+pub turn : (budget : ℕ) (store main local : List ℕ) (s : State) (n : ℕ) (r : Cycled) (m l : List ℕ) → outcome r m l ≡ cycleOf store main local s
+    → cyclesOf (suc budget) store main local s n ≡ onward (cyclesOf budget store) r m l n
+unfolding cyclesOf
+turn budget store main local s n r m l o = ap (λ (x : Outcome). onward (cyclesOf budget store) (x .answer) (x .main) (x .local) n) (sym o)
+
+-- with d of b cycles done
+pub on-spent : (b d : ℕ) (store main local : List ℕ) (s : State) → d ≡ b → cyclesOf (b - d) store main local s d ≡ ended Spent s d main local
+on-spent b d store main local s e = let z : b - d ≡ 0 = omega arith in rw (z, spent)
+
+module _ (b d : ℕ) (store main local m l : List ℕ) (s : State) (r : Cycled) (less : d < b) (o : outcome r m l ≡ cycleOf store main local s) where
+  on-any : cyclesOf (b - d) store main local s d ≡ onward (cyclesOf (b - (d + 1)) store) r m l d
+  on-any =
+      let z : b - d ≡ suc (b - (d + 1)) = omega arith in
+      ap (λ (n : ℕ). cyclesOf n store main local s d) z ∙ turn (b - (d + 1)) store main local s d r m l o
+
+  pub on-ran : (t : State) → r ≡ C.Ran t → cyclesOf (b - d) store main local s d ≡ cyclesOf (b - (d + 1)) store m l t (d + 1)
+  on-ran t e = on-any ∙ ap (λ (x : Cycled). onward (cyclesOf (b - (d + 1)) store) x m l d) e
+
+  pub on-stopped : (t : State) → r ≡ C.Stopped t → cyclesOf (b - d) store main local s d ≡ ended Stopped t d m l
+  on-stopped t e = on-any ∙ ap (λ (x : Cycled). onward (cyclesOf (b - (d + 1)) store) x m l d) e
+
+  pub on-refused : (t : State) (n f : ℕ) → r ≡ C.Refused t n f → cyclesOf (b - d) store main local s d ≡ ended (Refused n f) t d m l
+  on-refused t n f e = on-any ∙ ap (λ (x : Cycled). onward (cyclesOf (b - (d + 1)) store) x m l d) e
+
+-- a run that is refused at once, and one that is not
+module _ (budget : ℕ) (store main local : List ℕ) (s : State) where
+  pub refused-at-once : (n : ℕ) → n ≡ first (runChecks (length store) (length main) (length local) budget) → (n ≡ 0 → ⊥)
+      → ended (Refused n 0) s 0 main local ≡ runOf budget store main local s
+  unfolding runOf
+  refused-at-once n e z = by n z ∙ ap (λ (k : ℕ). runBy k budget store main local s) e
+    where
+      by : (k : ℕ) → (k ≡ 0 → ⊥) → ended (Refused k 0) s 0 main local ≡ runBy k budget store main local s
+      by zero z = absurd (z refl)
+      by (suc k) z = refl
+
+  pub goes-on : (n : ℕ) → n ≡ first (runChecks (length store) (length main) (length local) budget) → n ≡ 0
+      → cyclesOf budget store main local s 0 ≡ runOf budget store main local s
+  unfolding runOf
+  goes-on n e z = ap (λ (k : ℕ). runBy k budget store main local s) (sym z ∙ e)

@@ -1,0 +1,74 @@
+-- What is left of the run stands for the whole. Assumes nothing.
+use Prim.Native.Nat.{_≤_, _-_}
+use mathlib.Core.Path.{_≡_, refl, sym, _∙_}
+use native.Mathlib.Nat.{sub-zero}
+use native.Mathlib.Omega.{arith}
+use borrow.Author.Needs.{needs}
+use lib.ListN.{length}
+use Rattle.run.specs.Run.{cyclesOf}
+use Rattle.run.proofs.Runs.{on-spent, on-ran, on-stopped, on-refused}
+use Rattle.run.proofs.cycles.Statement.{statement}
+use Rattle.run.proofs.cycles.Tie as tie
+
+abbrev Inv-loop : tie.InvT-loop
+Inv-loop by-table store main₀ local₀ budget now₀ done₀ main local now done =
+    (done ≤ budget) × (length main ≡ length main₀) × (length local ≡ length local₀)
+    × (cyclesOf (budget - done) store main local now done ≡ cyclesOf budget store main₀ local₀ now₀ done₀)
+
+abbrev μ-loop : tie.MeasureT-loop
+μ-loop by-table store main₀ local₀ budget now₀ done₀ main local now done = budget - done
+
+loop-holds : tie.Need-loop-holds Inv-loop μ-loop
+loop-holds c = (search needs, refl, refl, rw sub-zero)
+
+loop-again : tie.Need-loop-again Inv-loop μ-loop
+loop-again c =
+    let at = c .before .before .before .before .before .before .before .before .before .before .before .loop in
+    let one = c .before .before .before .before .before .before .before .one in
+    let less = c .before .before .before .before .before .before .before .before .before .before .if1 .left in (
+      omega arith,
+      one .kept .1 .1 .0 ∙ at .inv .1,
+      one .kept .1 .1 .1 .0 ∙ at .inv .2,
+      sym (on-ran _ _ _ _ _ _ _ _ _ (omega (arith, less)) (one .ensures) _ (c .before .next .given .1)) ∙ at .inv .3,
+    )
+
+returns : tie.Need-returns Inv-loop μ-loop
+returns c = sym (on-spent _ _ _ _ _ _ (c .if1 .taken)) ∙ c .before .loop .inv .3
+
+returns-2 : tie.Need-returns-2 Inv-loop μ-loop
+returns-2 c =
+    let at = c .before .before .before .before .before .before .before .before .before .before .before .loop in
+    let one = c .before .before .before .before .before .before .before .one in
+    let less = c .before .before .before .before .before .before .before .before .before .before .if1 .left in
+    sym (on-stopped _ _ _ _ _ _ _ _ _ (omega (arith, less)) (one .ensures) _ (c .before .last .given .1)) ∙ at .inv .3
+
+returns-3 : tie.Need-returns-3 Inv-loop μ-loop
+returns-3 c =
+    let at = c .before .before .before .before .before .before .before .before .before .before .before .loop in
+    let one = c .before .before .before .before .before .before .before .one in
+    let less = c .before .before .before .before .before .before .before .before .before .before .if1 .left in
+    sym (on-refused _ _ _ _ _ _ _ _ _ (omega (arith, less)) (one .ensures) _ _ _ (c .before .last2 .given .1)) ∙ at .inv .3
+
+pub cycles-spec : {M : Type 1} → statement M
+cycles-spec =
+    tie.close
+    (tie.spec
+    Inv-loop
+    μ-loop
+    loop-holds
+    (λ c κs. tt)
+    (λ c. search needs)
+    (λ c. search needs)
+    (λ c. search needs)
+    loop-again
+    (λ c. search needs)
+    (λ c. search needs)
+    (λ c. search needs)
+    (λ c. search needs)
+    returns
+    (λ c. search needs)
+    (λ c. search needs)
+    returns-2
+    (λ c. search needs)
+    (λ c. search needs)
+    returns-3)
