@@ -16,7 +16,8 @@ use Rattle.adder.specs.Gates.{gatedA, gatedB}
 use Rattle.adder.specs.Adder.{isDecimal, isComplement, complement, turned, sixes, entering, lowered, arithmetic, logical, operations, operated, sumOf}
 use Rattle.adder.specs.declared.Controls.{Controls}
 use Rattle.adder.specs.declared.Sum.{Sum}
-use Rattle.adder.proofs.Gates.{any, gated-a-lt, gated-b-lt}
+use Rattle.digits.proofs.Table.{any}
+use Rattle.adder.proofs.Gates.{gated-a-lt, gated-b-lt}
 
 -- ---- one digit
 

@@ -30,3 +30,16 @@ from rule (x ∷ xs) i t (suc k) h =
 -- the rule at the index k
 pub at : (rule : ℕ → ℕ → Bool) (xs : List ℕ) → T (every rule 0 xs) → (k : ℕ) → k < length xs → T (rule k (getD xs k 0))
 at rule xs t k h = subst (λ (m : ℕ). T (rule m (getD xs k 0))) (zero-add k) (from rule xs 0 t k h)
+
+-- ---- what holds of each row
+
+-- P holds of each row of a table
+abbrev pub Each : {A : Type 0} → (A → Type 0) → List A → Type 0
+Each P [] = Unit {0}
+Each P (x ∷ xs) = P x × Each P xs
+
+-- then it holds of the row at any code
+pub any : {A : Type 0} (P : A → Type 0) (rows : List A) (other : A) → Each P rows → P other → (k : ℕ) → P (getD rows k other)
+any P [] other e o k = o
+any P (x ∷ xs) other e o zero = e .0
+any P (x ∷ xs) other e o (suc k) = any P xs other (e .1) o k

@@ -66,14 +66,16 @@ abbrev pub aSource : Fields → State → ℕ
 aSource f s = cond (caToW f) 0 (getD (aSources s) (f .ca) 0)
 
 -- "B by CB: 0 R, 1 L, 2 D, 3 CK twice"
-abbrev pub bSource : Fields → State → ℕ
-bSource f s =
-    getD
-    (s .r ∷  -- 0
+abbrev pub bSources : Fields → State → List ℕ
+bSources f s =
+    s .r ∷  -- 0
     s .l ∷  -- 1
     s .d ∷  -- 2
     digits (f .ck) (f .ck) ∷  -- 3
-    []) (f .cb) 0
+    []
+
+abbrev pub bSource : Fields → State → ℕ
+bSource f s = getD (bSources f s) (f .cb) 0
 
 abbrev pub controlsOf : Fields → State → Controls
 controlsOf f s = record { cf = f .cf; cg = f .cg; cv = f .cv; cc = f .cc; s0 = bit (s .s) 0; s3 = bit (s .s) 3 }

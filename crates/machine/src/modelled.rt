@@ -86,6 +86,8 @@ pub(crate) fn unmodelled(f: Fields) -> u8
         f.cs,
         f.asb,
     ];
+    // One layout of the table serves the whole scan.
+    let table = CODES;
     let mut row: usize = 0;
     'scan: loop {
         if row == 11 {
@@ -94,7 +96,7 @@ pub(crate) fn unmodelled(f: Fields) -> u8
         let code = codes[row];
         let mut k: usize = 0;
         while k < 5 {
-            if CODES[row * 5 + k] == code {
+            if table[row * 5 + k] == code {
                 break 'scan PLACES[row];
             }
             k += 1;

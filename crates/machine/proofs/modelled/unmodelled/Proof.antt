@@ -9,16 +9,16 @@ use Rattle.machine.proofs.modelled.unmodelled.Statement.{statement}
 use Rattle.machine.proofs.modelled.unmodelled.Tie as tie
 
 abbrev Inv-loop : tie.InvT-loop
-Inv-loop codes row code k₀ k = (k ≤ 5) × (hit code row k ≡ hit code row k₀)
+Inv-loop codes table row code k₀ k = (k ≤ 5) × (hit code row k ≡ hit code row k₀)
 
 abbrev μ-loop : tie.MeasureT-loop
-μ-loop codes row code k₀ k = 5 - k
+μ-loop codes table row code k₀ k = 5 - k
 
 abbrev Inv-scan : tie.InvT-scan
-Inv-scan codes row₀ row = (row ≤ 11) × (found codes row (11 - row) ≡ found codes row₀ (11 - row₀))
+Inv-scan codes table row₀ row = (row ≤ 11) × (found codes row (11 - row) ≡ found codes row₀ (11 - row₀))
 
 abbrev μ-scan : tie.MeasureT-scan
-μ-scan codes row₀ row = 11 - row
+μ-scan codes table row₀ row = 11 - row
 
 first-of-requires : tie.Need-first-of-requires Inv-loop μ-loop Inv-scan μ-scan
 first-of-requires c κs = tt
