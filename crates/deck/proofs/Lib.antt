@@ -1,0 +1,16 @@
+pub mod Every
+pub mod Lists
+pub mod Number
+pub mod Turns
+pub mod Walks
+pub mod Checks
+pub mod Groups
+pub mod Blocks
+pub mod Decks
+pub mod Written
+pub mod Answers
+pub mod Through
+pub mod Back
+pub mod Again
+pub mod Trips
+pub mod Promises

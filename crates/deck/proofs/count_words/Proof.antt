@@ -1,0 +1,72 @@
+-- The words counted so far, and those of the blocks that are left. Assumes nothing.
+use Prim.Native.Nat.{_+_, _-_, _*_, _/_, _≤_, _<_}
+use mathlib.Core.Path.{_≡_, refl, ap, _∙_}
+use mathlib.Core.List.{map}
+use native.Mathlib.Nat.{zero-add, add-sub-cancel-left}
+use native.Mathlib.Omega.{arith}
+use lib.ListN.{length, drop, length-take, length-drop, length-append}
+use borrow.Author.Needs.{needs}
+use Rattle.deck.specs.Lists.{joined}
+use Rattle.deck.specs.Deck.{blocksOf, countIn, wordsIn, wordsOf}
+use Rattle.deck.proofs.Lists.{joined-end}
+use Rattle.deck.proofs.Groups.{length-groups, length-blocks}
+use Rattle.deck.proofs.Decks.{block, length-words, some-at, words-step}
+use Rattle.deck.proofs.count_words.Statement.{statement}
+use Rattle.deck.proofs.count_words.Tie as tie
+
+abbrev Inv-loop : tie.InvT-loop
+Inv-loop deck n b₀ total₀ b total =
+    (b ≤ n) × (n ≡ length deck / 512) × (total ≤ 62 * b) × (total + length (joined (map wordsIn (drop b (blocksOf deck)))) ≡ length (wordsOf deck))
+
+abbrev μ-loop : tie.MeasureT-loop
+μ-loop deck n b₀ total₀ b total = n - b
+
+loop-holds : tie.Need-loop-holds Inv-loop μ-loop
+unfolding wordsOf
+loop-holds c = (search needs, refl, search needs, zero-add _)
+
+-- the groups that are read are the block's
+is-block : (c : tie.After-groups-of Inv-loop μ-loop) → c .groups-of .result ≡ block (c .before .before .before .before .before .args .deck .now) (c .before .before .before .loop .b)
+is-block c = c .groups-of .ensures ∙ rw (add-sub-cancel-left (c .before .before .before .loop .b * 512) 512)
+
+groups-of-requires : tie.Need-groups-of-requires Inv-loop μ-loop
+groups-of-requires c κs = simp (length-take, length-drop) (omega arith)
+
+loop-again : tie.Need-loop-again Inv-loop μ-loop
+loop-again c =
+    let l = c .before .before .before .before .loop in
+    let s = c .before .before .before .before .before .before in
+    let deck = s .args .deck .now in
+    let h : l .b < length deck / 512 = omega arith in
+    let k = some-at deck (l .b) h (s .pre .1) in
+    let w = length-words (block deck (l .b)) (length-groups _) (k .1) in
+    let j = ap length (words-step deck (l .b) h) ∙ length-append (wordsIn (block deck (l .b))) _ in
+    let n : c .count-in .result ≡ countIn (block deck (l .b)) = c .count-in .ensures .0 ∙ ap countIn (is-block (c .before)) in
+    (search needs, refl, omega arith, omega arith)
+
+returns : tie.Need-returns Inv-loop μ-loop
+returns c =
+    let l = c .before .loop in
+    let deck = c .before .before .before .args .deck .now in
+    let e = ap length (joined-end wordsIn (blocksOf deck) (l .b) (rw length-blocks (omega arith))) in
+    omega arith
+
+pub count-words-spec : {M : Type 1} → statement M
+count-words-spec =
+    tie.close
+    (tie.spec
+    Inv-loop
+    μ-loop
+    loop-holds
+    (λ c. search needs)
+    (λ c. search needs)
+    (λ c. search needs)
+    (λ c. search needs)
+    (λ c. search needs)
+    groups-of-requires
+    (λ c κs. tt)
+    (λ c. search needs)
+    (λ c. search needs)
+    (λ c. search needs)
+    loop-again
+    returns)

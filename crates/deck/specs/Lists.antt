@@ -1,0 +1,38 @@
+-- A list in pieces, and the checks of its elements one after the other. Assumes nothing.
+use Prim.Native.Nat.{ℕ, zero, suc, _+_}
+use mathlib.Core.List.{List, [], _∷_, _++_}
+use mathlib.Core.Bool.{Bool, true, _&&_}
+use lib.ListN.{take, drop, length}
+use lib.Dec.{eqb}
+use Rattle.digits.specs.Refusal.{Check}
+
+-- n pieces of k each; the last may have fewer
+abbrev pub pieces : {A : Type 0} → ℕ → ℕ → List A → List (List A)
+pieces k zero l = []
+pieces k (suc n) l = take k l ∷ pieces k n (drop k l)
+
+-- the pieces one after the other
+abbrev pub joined : {A : Type 0} → List (List A) → List A
+joined [] = []
+joined (p ∷ ps) = p ++ joined ps
+
+-- f of each element and its place, counted from i
+abbrev pub placed : {A B : Type 0} → (ℕ → A → B) → ℕ → List A → List B
+placed f i [] = []
+placed f i (x ∷ xs) = f i x ∷ placed f (suc i) xs
+
+-- the checks of each element at its place, one after the other
+abbrev pub inTurn : {A : Type 0} → (ℕ → A → List Check) → ℕ → List A → List Check
+inTurn checks i l = joined (placed checks i l)
+
+abbrev pub sumOf : List ℕ → ℕ
+sumOf [] = 0
+sumOf (x ∷ xs) = x + sumOf xs
+
+abbrev pub allZero : List ℕ → Bool
+allZero [] = true
+allZero (x ∷ xs) = eqb x 0 && allZero xs
+
+-- what was lent, with the new at its front and nothing changed past it
+abbrev pub over : {A : Type 0} → List A → List A → List A
+over new old = new ++ drop (length new) old

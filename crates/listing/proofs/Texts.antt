@@ -1,0 +1,81 @@
+-- Lines, and a text in the room lent. Assumes nothing.
+use Prim.Native.Nat.{ℕ, suc, _+_, _-_, _*_, _<_, _≤_}
+use mathlib.Core.Path.{_≡_, refl, sym, ap, _∙_}
+use mathlib.Core.List.{List, [], _∷_, _++_, map}
+use mathlib.Core.Bool.{Bool, true, false, cond}
+use native.Mathlib.Nat.{zero-add}
+use native.Mathlib.Omega.{arith}
+use borrow.Author.Tests.{lt-ltb, le-ltb}
+use lib.ListN.{length, getD, take, drop, length-append}
+use Rattle.digits.specs.Refusal.{first}
+use Rattle.deck.specs.Lists.{joined, placed, over}
+use Rattle.deck.specs.Deck.{readChecks, readOf, wordsAfter, wordsOf}
+use Rattle.deck.specs.declared.Reading.the-variants as R
+use Rattle.deck.proofs.Lists.{placed-step, placed-end}
+use Rattle.deck.proofs.Answers.{same-refusal, was-read, taken}
+use Rattle.listing.specs.Listing.{lineOf, linesOf, refusalOf, textOf, putOf, roomAfter}
+use Rattle.listing.specs.declared.Listed.the-variants as L
+
+pub map-last : (f : ℕ → ℕ) (l : List ℕ) (x : ℕ) → map f (l ++ (x ∷ [])) ≡ map f l ++ (f x ∷ [])
+map-last f [] x = refl
+map-last f (y ∷ l) x = ap (λ (r : List ℕ). f y ∷ r) (map-last f l x)
+
+-- ---- lines
+
+pub length-line : (a w : ℕ) → length (lineOf a w) ≡ 19
+unfolding lineOf
+length-line a w = refl
+
+length-from : (a : ℕ) (ws : List ℕ) → length (joined (placed lineOf a ws)) ≡ 19 * length ws
+length-from a [] = refl
+length-from a (w ∷ ws) = length-append (lineOf a w) _ ∙ rw (length-line a w, length-from (suc a) ws) (omega arith)
+
+pub length-lines : (ws : List ℕ) → length (linesOf ws) ≡ 19 * length ws
+unfolding linesOf
+length-lines ws = length-from 0 ws
+
+-- the lines from word i on
+abbrev pub restOf : List ℕ → ℕ → List ℕ
+restOf ws i = joined (placed lineOf (0 + i) (drop i ws))
+
+pub rest-step : (ws : List ℕ) (i : ℕ) → i < length ws → restOf ws i ≡ lineOf i (getD ws i 0) ++ restOf ws (i + 1)
+rest-step ws i h = rw (placed-step lineOf ws 0 0 i h, zero-add i)
+
+pub rest-end : (ws : List ℕ) (i : ℕ) → length ws ≤ i → restOf ws i ≡ []
+rest-end ws i h = rw (placed-end lineOf ws (0 + i) i h)
+
+-- ---- a text in a room that is too small, and in one that is not
+
+module _ (text old : List ℕ) where
+  pub too-small : length old < length text → (L.Refused 19 ≡ putOf text (length old)) × (old ≡ roomAfter text old)
+  unfolding putOf roomAfter
+  too-small h = rw (lt-ltb (length old) (length text) h) (refl, refl)
+
+  pub fits : length text ≤ length old → (L.Text (length text) ≡ putOf text (length old)) × (over text old ≡ roomAfter text old)
+  unfolding putOf roomAfter
+  fits h = rw (le-ltb (length old) (length text) h) (refl, refl)
+
+-- ---- three digits and a line feed, from the first digit that is printed
+
+pub tail-is : (one two : Bool) (h t u : ℕ) →
+    let z : ℕ = cond one 2 (cond two 1 0) in
+    take (4 - z) (drop z (h ∷ t ∷ u ∷ 10 ∷ [])) ≡ drop z (h ∷ t ∷ u ∷ []) ++ (10 ∷ [])
+tail-is true two h t u = refl
+tail-is false true h t u = refl
+tail-is false false h t u = refl
+
+-- ---- what is printed of a deck
+
+pub text-of-words : (deck words : List ℕ) (n : ℕ) → length words ≡ 4096 → readOf deck (length words) ≡ R.Words n → (n ≤ 4096) × (linesOf (take n (wordsAfter deck words)) ≡ textOf deck)
+unfolding textOf
+text-of-words deck words n l e =
+    let r = was-read deck (length words) n e in
+    let fits = r .fits in
+    let count = r .count in
+    let c : first (readChecks deck 4096) ≡ 0 = rw l at (r .checks) in
+    (omega arith, rw (taken deck words n r, c))
+
+pub text-of-refusal : (deck : List ℕ) (n : ℕ) → readOf deck 4096 ≡ R.Refused n → refusalOf n ≡ textOf deck
+unfolding readOf textOf
+text-of-refusal deck n e =
+    sym (same-refusal R.Refused (R.Words (length (wordsOf deck))) (λ m k z. cc) (λ k z. let o : _≡_ {A = ℕ} 0 1 = cc in omega arith) refusalOf (linesOf (wordsOf deck)) (first (readChecks deck 4096)) n e)
