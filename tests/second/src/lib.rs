@@ -4,6 +4,7 @@
 //! code; a code with no entry is a code that is not modelled, so refusal 10 reads the same tables.
 
 pub mod adder;
+pub mod agree;
 pub mod bits;
 pub mod branch;
 pub mod cycle;

@@ -1,0 +1,100 @@
+// Drawn states, and the digest of a state.
+use machine::State;
+
+pub fn drawn_state(c: u64, e: u64, wx: u16) -> State {
+    State {
+        i: (c % 256) as u8,
+        j: (c / 0x100 % 256) as u8,
+        u: (c / 0x1_0000 % 256) as u8,
+        v: (c / 0x100_0000 % 256) as u8,
+        l: (c / 0x1_0000_0000 % 256) as u8,
+        t: (c / 0x100_0000_0000 % 256) as u8,
+        d: (c / 0x1_0000_0000_0000 % 256) as u8,
+        r: (c / 0x100_0000_0000_0000) as u8,
+        s: (e % 256) as u8,
+        g: (e / 0x100 % 256) as u8,
+        h: (e / 0x1_0000 % 256) as u8,
+        m: (e / 0x100_0000 % 256) as u8,
+        n: (e / 0x1_0000_0000 % 256) as u8,
+        wx: wx,
+        ac: e / 0x100_0000_0000 % 2 == 1,
+        one_bc: e / 0x200_0000_0000 % 2 == 1,
+        z0: e / 0x400_0000_0000 % 2 == 1,
+        allow_write: e / 0x800_0000_0000 % 2 == 1,
+        local_selected: e / 0x1000_0000_0000 % 2 == 1,
+        arriving: e / 0x2000_0000_0000 % 2 == 1,
+        arriving_byte: (e / 0x100_0000_0000_0000) as u8,
+    }
+}
+
+fn near_high(v: u8) -> u8 {
+    if v % 4 == 3 { 1 } else { 0 }
+}
+
+fn near_low(v: u8) -> u8 {
+    [0, 1, 254, 255][(v % 4) as usize]
+}
+
+// The state with every pair that addresses storage near 0, 255 or 511.
+pub fn near(s: State) -> State {
+    State {
+        i: near_high(s.i),
+        j: near_low(s.j),
+        u: near_high(s.u),
+        v: near_low(s.v),
+        l: near_high(s.l),
+        t: near_low(s.t),
+        m: near_high(s.m),
+        n: near_low(s.n),
+        ..s
+    }
+}
+
+// Eight bytes as one number, the first one high.
+pub fn eight(a: u8, b: u8, c: u8, d: u8, e: u8, f: u8, g: u8, h: u8) -> u64 {
+    a as u64 * 0x100_0000_0000_0000
+        + b as u64 * 0x1_0000_0000_0000
+        + c as u64 * 0x100_0000_0000
+        + d as u64 * 0x1_0000_0000
+        + e as u64 * 0x100_0000
+        + f as u64 * 0x1_0000
+        + g as u64 * 0x100
+        + h as u64
+}
+
+// Six latches and the arriving byte as one number.
+fn seven(
+    ac: bool,
+    one_bc: bool,
+    z0: bool,
+    allow: bool,
+    local: bool,
+    arriving: bool,
+    byte: u8,
+) -> u64 {
+    crate::one(ac) * 0x2000
+        + crate::one(one_bc) * 0x1000
+        + crate::one(z0) * 0x800
+        + crate::one(allow) * 0x400
+        + crate::one(local) * 0x200
+        + crate::one(arriving) * 0x100
+        + byte as u64
+}
+
+// The digest after all of a state.
+pub fn mix_state(digest: u64, s: State) -> u64 {
+    let first = eight(s.i, s.j, s.u, s.v, s.l, s.t, s.d, s.r);
+    let x_low = (s.wx % 256) as u8;
+    let w_high = (s.wx / 256) as u8;
+    let second = eight(s.s, s.g, s.h, s.m, s.n, 0, w_high, x_low);
+    let third = seven(
+        s.ac,
+        s.one_bc,
+        s.z0,
+        s.allow_write,
+        s.local_selected,
+        s.arriving,
+        s.arriving_byte,
+    );
+    crate::mix(crate::mix(crate::mix(digest, first), second), third)
+}

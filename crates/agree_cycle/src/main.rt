@@ -1,0 +1,296 @@
+// Single cycles against tests/second: drawn words, states and storage sizes, by rule and by table.
+use libc::STDOUT_FILENO;
+use machine::Cycled;
+use machine::State;
+
+// A case: the word that stands at WX, the state, and how much of each storage is lent.
+struct Trial {
+    word: u64,
+    state: State,
+    words: usize,
+    main: usize,
+    local: usize,
+}
+
+// The generator's last number, and the digest.
+struct Going {
+    x: u64,
+    digest: u64,
+}
+
+fn main_size(x: u64) -> usize {
+    [65536, 65536, 65536, 65536, 1, 255, 256, 257][(x % 8) as usize]
+}
+
+fn store_size(x: u64) -> usize {
+    [4096, 4096, 4096, 4095, 1, 2, 256, 1000][(x % 8) as usize]
+}
+
+// One WX of 32 is any number, and the others lie in the store.
+fn drawn_wx(words: usize, x: u64) -> u16 {
+    if words == 0 {
+        return 0;
+    }
+    if x % 32 == 0 {
+        return (x / 32 % 65536) as u16;
+    }
+    (x / 32 % words as u64 % 65536) as u16
+}
+
+// The sizes of one case of 43 are wrong, each in one of six ways.
+fn wrong_size(which: u64, c: Trial) -> Trial {
+    match which {
+        0 => Trial { words: 0, ..c },
+        1 => Trial { words: 4097, ..c },
+        2 => Trial { main: 0, ..c },
+        3 => Trial { main: 65537, ..c },
+        4 => Trial { local: 255, ..c },
+        5 => Trial { local: 257, ..c },
+        _ => c,
+    }
+}
+
+fn drawn(a: u64, b: u64, c: u64, e: u64, f: u64, g: u64) -> Trial {
+    let words = store_size(f / 0x100);
+    let main = main_size(f / 0x800);
+    let wx = drawn_wx(words, g);
+    let state = agree::drawn_state(c, e, wx);
+    let near = agree::near(state);
+    let close = (main < 65536) & (f / 0x4000 % 4 != 0);
+    let chosen = if close { near } else { state };
+    wrong_size(
+        f % 256,
+        Trial {
+            word: agree::word_for(a, b, f / 0x1_0000, wx as u32 % 4096),
+            state: chosen,
+            words: words,
+            main: main,
+            local: 256,
+        },
+    )
+}
+
+fn put(store: &mut [u64], at: usize, word: u64) {
+    if at < store.len() {
+        store[at] = word;
+    }
+}
+
+fn byte_at(bytes: &[u8], at: usize) -> u8 {
+    if at < bytes.len() {
+        return bytes[at];
+    }
+    0
+}
+
+fn state_of(c: Cycled) -> State {
+    match c {
+        Cycled::Ran(s) => s,
+        Cycled::Stopped(s) => s,
+        Cycled::Refused(s, _, _) => s,
+    }
+}
+
+// Where an answer is counted: a refusal at its number, ran at 100 and stopped at 101.
+fn number_of(c: Cycled) -> u8 {
+    match c {
+        Cycled::Ran(_) => 100,
+        Cycled::Stopped(_) => 101,
+        Cycled::Refused(_, number, _) => number,
+    }
+}
+
+fn field_of(c: Cycled) -> u8 {
+    match c {
+        Cycled::Ran(_) => 0,
+        Cycled::Stopped(_) => 0,
+        Cycled::Refused(_, _, field) => field,
+    }
+}
+
+// The digest after an answer, and after the bytes of storage that the state before it addresses.
+fn mix_answer(digest: u64, c: Cycled, main: &[u8], local: &[u8], before: State) -> u64 {
+    let n = before.n as usize;
+    let at = before.m as usize * 256 + n;
+    let d = agree::mix(digest, number_of(c) as u64 * 256 + field_of(c) as u64);
+    let d = agree::mix_state(d, state_of(c));
+    agree::mix(d, byte_at(main, at) as u64 * 256 + byte_at(local, n) as u64)
+}
+
+fn count(c: Cycled, numbers: &mut [u32], fields: &mut [u32]) {
+    agree::tally(numbers, number_of(c) as usize);
+    agree::tally(fields, field_of(c) as usize);
+}
+
+fn by_rule(
+    digest: u64,
+    store: &[u64],
+    main: &mut [u8],
+    local: &mut [u8],
+    s: State,
+    numbers: &mut [u32],
+    fields: &mut [u32],
+) -> u64 {
+    let answer = machine::cycle(store, main, local, s);
+    count(answer, numbers, fields);
+    mix_answer(digest, answer, main, local, s)
+}
+
+fn by_table(digest: u64, store: &[u64], main: &mut [u8], local: &mut [u8], s: State) -> u64 {
+    let answer = machine::cycle_by_table(store, main, local, s);
+    mix_answer(digest, answer, main, local, s)
+}
+
+// The case with what is lent of each storage: the rule has the first pair of storages, the table the second.
+fn lend(
+    c: Trial,
+    digest: u64,
+    store: &mut [u64],
+    main: &mut [u8],
+    local: &mut [u8],
+    main_t: &mut [u8],
+    local_t: &mut [u8],
+    numbers: &mut [u32],
+    fields: &mut [u32],
+) -> u64 {
+    put(store, c.state.wx as usize, c.word);
+    let words = agree::at_most(c.words, store.len());
+    let m = agree::at_most(c.main, main.len());
+    let l = agree::at_most(c.local, local.len());
+    let d = by_rule(
+        digest,
+        &store[0..words],
+        &mut main[0..m],
+        &mut local[0..l],
+        c.state,
+        numbers,
+        fields,
+    );
+    let m = agree::at_most(c.main, main_t.len());
+    let l = agree::at_most(c.local, local_t.len());
+    by_table(
+        d,
+        &store[0..words],
+        &mut main_t[0..m],
+        &mut local_t[0..l],
+        c.state,
+    )
+}
+
+fn case(
+    g: Going,
+    store: &mut [u64],
+    main: &mut [u8],
+    local: &mut [u8],
+    main_t: &mut [u8],
+    local_t: &mut [u8],
+    numbers: &mut [u32],
+    fields: &mut [u32],
+) -> Going {
+    let a = agree::next(g.x);
+    let b = agree::next(a);
+    let c = agree::next(b);
+    let e = agree::next(c);
+    let f = agree::next(e);
+    let last = agree::next(f);
+    let case = drawn(a, b, c, e, f, last);
+    Going {
+        x: last,
+        digest: lend(
+            case,
+            g.digest,
+            store,
+            main,
+            local,
+            main_t,
+            local_t,
+            numbers,
+            fields,
+        ),
+    }
+}
+
+// 10,000 cases, and then all that is stored.
+fn cases(
+    g: Going,
+    store: &mut [u64],
+    main: &mut [u8],
+    local: &mut [u8],
+    main_t: &mut [u8],
+    local_t: &mut [u8],
+    numbers: &mut [u32],
+    fields: &mut [u32],
+) -> Going {
+    let mut g = g;
+    for k in 0..10000u32 {
+        g = case(g, store, main, local, main_t, local_t, numbers, fields);
+    }
+    let d = agree::mix_bytes(agree::mix_bytes(g.digest, main), local);
+    Going {
+        x: g.x,
+        digest: agree::mix_bytes(agree::mix_bytes(d, main_t), local_t),
+    }
+}
+
+fn report(numbers: &[u32], fields: &[u32]) {
+    agree::print_count(b"ran", agree::counted(numbers, 100));
+    agree::print_count(b"stopped", agree::counted(numbers, 101));
+    for k in 1..12usize {
+        io::write_all(STDOUT_FILENO, b"refused ");
+        io::print_decimal(STDOUT_FILENO, k as u64);
+        agree::print_count(b"", agree::counted(numbers, k));
+    }
+    report_fields(fields);
+}
+
+fn report_fields(fields: &[u32]) {
+    agree::print_count(b"CH", agree::counted(fields, 4));
+    agree::print_count(b"CL", agree::counted(fields, 5));
+    agree::print_count(b"CM", agree::counted(fields, 6));
+    agree::print_count(b"CU", agree::counted(fields, 7));
+    agree::print_count(b"CA", agree::counted(fields, 8));
+    agree::print_count(b"AA", agree::counted(fields, 9));
+    agree::print_count(b"AK", agree::counted(fields, 12));
+    agree::print_count(b"CD", agree::counted(fields, 15));
+    agree::print_count(b"CS", agree::counted(fields, 20));
+    agree::print_count(b"AS", agree::counted(fields, 21));
+}
+
+fn blocks(
+    store: &mut [u64],
+    main: &mut [u8],
+    local: &mut [u8],
+    main_t: &mut [u8],
+    local_t: &mut [u8],
+) {
+    let mut numbers = [0u32; 256];
+    let mut fields = [0u32; 256];
+    let mut g = Going { x: 13, digest: 4 };
+    for k in 0..24u32 {
+        g = cases(
+            g,
+            store,
+            main,
+            local,
+            main_t,
+            local_t,
+            &mut numbers,
+            &mut fields,
+        );
+        agree::print_digest(k as u64 * 10000 + 10000, g.digest);
+    }
+    report(&numbers, &fields);
+}
+
+fn main() {
+    let mut store = [0u64; 4097];
+    let mut main = [0u8; 65537];
+    let mut local = [0u8; 257];
+    let mut main_t = [0u8; 65537];
+    let mut local_t = [0u8; 257];
+    agree::fill(17, &mut main);
+    agree::fill(19, &mut local);
+    agree::fill(17, &mut main_t);
+    agree::fill(19, &mut local_t);
+    blocks(&mut store, &mut main, &mut local, &mut main_t, &mut local_t);
+}

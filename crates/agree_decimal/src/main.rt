@@ -1,0 +1,239 @@
+// Decimal adds against tests/second: every length and carry, bad digits in every place, one field twice, the ends of
+// storage, and each refusal.
+use decimal::Added;
+
+// The generator's last number, and the digest.
+struct Going {
+    x: u64,
+    digest: u64,
+}
+
+// An add: how much storage is lent, the two starts, the length and the carry in.
+struct Trial {
+    main: usize,
+    local: usize,
+    first: usize,
+    second: usize,
+    length: usize,
+    carry: bool,
+}
+
+// Two digits, each at most 9.
+fn digits(x: u64) -> u8 {
+    (x / 16 % 10 * 16 + x % 10) as u8
+}
+
+fn put(bytes: &mut [u8], at: usize, byte: u8) {
+    if at < bytes.len() {
+        bytes[at] = byte;
+    }
+}
+
+// Good digits in every byte, which one time in four are all nines and one time in four all zeros.
+fn fill_digits(x: u64, style: u64, main: &mut [u8]) -> u64 {
+    let mut x = x;
+    for k in 0..main.len() {
+        x = agree::next(x);
+        main[k] = styled(style, x);
+    }
+    x
+}
+
+fn styled(style: u64, x: u64) -> u8 {
+    if style % 4 == 1 {
+        return 0x99;
+    }
+    if style % 4 == 2 {
+        return 0;
+    }
+    digits(x / 256)
+}
+
+// Storage of 48 bytes, or, for the ends of a large one, of 300 or 65,536.
+fn main_size(x: u64) -> usize {
+    [48, 48, 48, 48, 48, 48, 300, 65536][(x % 8) as usize]
+}
+
+// Where a field starts: near the start of storage, or near its end so that it ends there or runs over.
+fn field_start(main: usize, x: u64) -> usize {
+    let place = (x / 4 % 34) as usize;
+    if x % 4 == 0 {
+        return less(main, place);
+    }
+    place
+}
+
+fn less(n: usize, m: usize) -> usize {
+    if n < m { 0 } else { n - m }
+}
+
+fn drawn_length(x: u64) -> usize {
+    if x % 16 == 0 {
+        return (x / 16 % 20) as usize;
+    }
+    (x / 16 % 16 + 1) as usize
+}
+
+// Sizes that are wrong in one of four ways, lengths and starts as large as numbers go, or one field twice.
+fn altered(which: u64, t: Trial) -> Trial {
+    match which {
+        0 => Trial { main: 0, ..t },
+        1 => Trial { main: 65537, ..t },
+        2 => Trial { local: 255, ..t },
+        3 => Trial { local: 257, ..t },
+        4 => Trial {
+            length: 0xFFFF_FFFF_FFFF_FFFF,
+            ..t
+        },
+        5 => Trial {
+            first: 0xFFFF_FFFF_FFFF_FFFF,
+            ..t
+        },
+        6 => Trial {
+            second: 0xFFFF_FFFF_FFFF_FFF8,
+            ..t
+        },
+        7 | 8 | 9 | 10 | 11 | 12 | 13 | 14 => same(t),
+        _ => t,
+    }
+}
+
+// The second field is the first.
+fn same(t: Trial) -> Trial {
+    let first = t.first;
+    Trial { second: first, ..t }
+}
+
+fn drawn(a: u64, b: u64) -> Trial {
+    let main = main_size(a / 0x100);
+    altered(
+        a % 64,
+        Trial {
+            main: main,
+            local: 256,
+            first: field_start(main, b),
+            second: field_start(main, b / 0x1_0000),
+            length: drawn_length(a / 0x1_0000),
+            carry: a / 0x1000 % 2 == 1,
+        },
+    )
+}
+
+// A bad digit in one byte of storage, near the start of a field.
+fn spoil(main: &mut [u8], start: usize, x: u64) {
+    if start < main.len() {
+        let at = start + (x / 0x100 % 18) as usize;
+        put(main, at, (x / 0x1_0000 % 256) as u8);
+    }
+}
+
+// The digest after an answer and its storage. An answer is counted at its number, summed at 0 with no carry and 1 with
+// one, a bad digit at 2.
+fn mix_added(digest: u64, answer: Added, counts: &mut [u32]) -> u64 {
+    match answer {
+        Added::Summed(carry, count) => {
+            let out = agree::one(carry);
+            agree::tally(counts, out as usize);
+            agree::mix(agree::mix(digest, out), count as u64)
+        }
+        Added::BadDigit(count) => {
+            agree::tally(counts, 2);
+            agree::mix(agree::mix(digest, 2), count as u64)
+        }
+        Added::Refused(number) => {
+            agree::tally(counts, number as usize + 16);
+            agree::mix(digest, number as u64 + 16)
+        }
+    }
+}
+
+fn lend(t: Trial, digest: u64, main: &mut [u8], local: &mut [u8], counts: &mut [u32]) -> u64 {
+    let m = agree::at_most(t.main, main.len());
+    let l = agree::at_most(t.local, local.len());
+    let answer = decimal::add(
+        &mut main[0..m],
+        &mut local[0..l],
+        t.first,
+        t.second,
+        t.length,
+        t.carry,
+    );
+    mix_added(digest, answer, counts)
+}
+
+// The first 300 bytes of main storage are drawn anew.
+fn fill_low(x: u64, style: u64, main: &mut [u8]) -> u64 {
+    let low = agree::at_most(300, main.len());
+    fill_digits(x, style, &mut main[0..low])
+}
+
+// And the last 64.
+fn fill_high(x: u64, style: u64, main: &mut [u8]) -> u64 {
+    let from = agree::at_most(less(main.len(), 64), main.len());
+    fill_digits(x, style, &mut main[from..])
+}
+
+// The digest after both, and after local storage.
+fn mix_ends(digest: u64, main: &[u8], local: &[u8]) -> u64 {
+    let low = agree::at_most(300, main.len());
+    let d = agree::mix_bytes(digest, &main[0..low]);
+    let from = agree::at_most(less(main.len(), 64), main.len());
+    agree::mix_bytes(agree::mix_bytes(d, &main[from..]), local)
+}
+
+fn case(g: Going, main: &mut [u8], local: &mut [u8], counts: &mut [u32]) -> Going {
+    let a = agree::next(g.x);
+    let b = agree::next(a);
+    let c = agree::next(b);
+    let t = drawn(a, b);
+    let x = fill_low(c, c / 0x100, main);
+    let x = fill_high(x, c / 0x400, main);
+    spoil_some(main, t, c);
+    let d = lend(t, g.digest, main, local, counts);
+    Going {
+        x: x,
+        digest: mix_ends(d, main, local),
+    }
+}
+
+// One time in four a digit of either field is bad.
+fn spoil_some(main: &mut [u8], t: Trial, c: u64) {
+    if c % 8 == 0 {
+        spoil(main, t.first, c / 8);
+        return;
+    }
+    if c % 8 != 1 {
+        return;
+    }
+    spoil(main, t.second, c / 8);
+}
+
+fn cases(main: &mut [u8], local: &mut [u8], counts: &mut [u32]) {
+    let mut g = Going { x: 53, digest: 9 };
+    for k in 0..40000u32 {
+        g = case(g, main, local, counts);
+        if k % 4000 == 3999 {
+            agree::print_digest(k as u64 + 1, agree::mix_bytes(g.digest, main));
+        }
+    }
+}
+
+fn report(counts: &[u32]) {
+    agree::print_count(b"summed with no carry", agree::counted(counts, 0));
+    agree::print_count(b"summed with a carry", agree::counted(counts, 1));
+    agree::print_count(b"bad digit", agree::counted(counts, 2));
+    agree::print_count(b"refused 1", agree::counted(counts, 17));
+    agree::print_count(b"refused 12", agree::counted(counts, 28));
+    agree::print_count(b"refused 13", agree::counted(counts, 29));
+    agree::print_count(b"refused 14", agree::counted(counts, 30));
+}
+
+fn main() {
+    let mut main = [0u8; 65537];
+    let mut local = [0u8; 257];
+    let mut counts = [0u32; 64];
+    agree::fill(59, &mut main);
+    agree::fill(61, &mut local);
+    cases(&mut main, &mut local, &mut counts);
+    report(&counts);
+}

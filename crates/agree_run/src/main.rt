@@ -1,0 +1,281 @@
+// Runs against tests/second: drawn stores, states, sizes and budgets, by rule and by table.
+use libc::STDOUT_FILENO;
+use machine::State;
+use run::Ending;
+use run::Finished;
+use word::Fields;
+
+// A run: the state that it starts from, how much of each storage is lent, its budget, and of 256 words how many are
+// of any kind, as many again being stops.
+struct Trial {
+    state: State,
+    words: usize,
+    main: usize,
+    local: usize,
+    budget: u32,
+    rate: u64,
+}
+
+// The generator's last number, the digest, and how many cycles ran.
+struct Going {
+    x: u64,
+    digest: u64,
+    cycles: u64,
+}
+
+fn main_size(x: u64) -> usize {
+    [65536, 65536, 65536, 65536, 65536, 1, 256, 257][(x % 8) as usize]
+}
+
+fn store_size(x: u64) -> usize {
+    [4096, 4096, 4096, 4096, 1, 256, 257, 4000][(x % 8) as usize]
+}
+
+// The largest budget is drawn seldom: a run may spend it.
+fn drawn_budget(x: u64, seldom: u64) -> u32 {
+    if (x % 16 == 0) & (seldom % 4 == 0) {
+        return 1000000;
+    }
+    [
+        1000,
+        0,
+        1,
+        2,
+        3,
+        10,
+        100,
+        500,
+        999,
+        1000,
+        1000,
+        1000,
+        1000,
+        1000,
+        1000,
+        1000001,
+    ][(x % 16) as usize]
+}
+
+fn drawn_rate(x: u64) -> u64 {
+    [0, 0, 1, 1, 1, 2, 8, 32][(x % 8) as usize]
+}
+
+// The sizes of one run of 43 are wrong, each in one of six ways.
+fn wrong_size(which: u64, t: Trial) -> Trial {
+    match which {
+        0 => Trial { words: 0, ..t },
+        1 => Trial { words: 4097, ..t },
+        2 => Trial { main: 0, ..t },
+        3 => Trial { main: 65537, ..t },
+        4 => Trial { local: 255, ..t },
+        5 => Trial { local: 257, ..t },
+        _ => t,
+    }
+}
+
+fn drawn(a: u64, c: u64, e: u64) -> Trial {
+    let wx = (a / 0x1_0000_0000 % 256) as u16;
+    wrong_size(
+        a % 256,
+        Trial {
+            state: agree::drawn_state(c, e, wx),
+            words: store_size(a / 0x100),
+            main: main_size(a / 0x800),
+            local: 256,
+            budget: drawn_budget(a / 0x4000, a / 0x100_0000_0000),
+            rate: drawn_rate(a / 0x4_0000),
+        },
+    )
+}
+
+// A word of a run's store.
+fn store_word(a: u64, b: u64, x: u64, rate: u64, address: u32) -> u64 {
+    let roll = x % 256;
+    if roll < rate {
+        // A kind that is seldom a word that runs.
+        return agree::word_for(a, b, x / 0x1_0000 * 64 + 44 + x / 256 % 20, address);
+    }
+    let f = agree::modelled(a, b);
+    if roll / 2 < rate {
+        return agree::packed(Fields { cf: 4, ..f }, address);
+    }
+    agree::packed(f, address)
+}
+
+// Words in all of the store; the generator's last number is the answer.
+fn fill_store(x: u64, rate: u64, store: &mut [u64]) -> u64 {
+    let mut x = x;
+    for k in 0..store.len() {
+        let a = agree::next(x);
+        let b = agree::next(a);
+        x = agree::next(b);
+        store[k] = store_word(a, b, x, rate, (k % 4096) as u32);
+    }
+    x
+}
+
+// Where an ending is counted: a refusal at its number, stopped at 101 and spent at 102.
+fn number_of(e: Ending) -> u8 {
+    match e {
+        Ending::Stopped => 101,
+        Ending::Refused(number, _) => number,
+        Ending::Spent => 102,
+    }
+}
+
+fn field_of(e: Ending) -> u8 {
+    match e {
+        Ending::Stopped => 0,
+        Ending::Refused(_, field) => field,
+        Ending::Spent => 0,
+    }
+}
+
+// The digest after the ending, the count, the state and all of both storages.
+fn mix_finished(digest: u64, f: Finished, main: &[u8], local: &[u8]) -> u64 {
+    let ending = f.ending;
+    let d = agree::mix(
+        digest,
+        number_of(ending) as u64 * 256 + field_of(ending) as u64,
+    );
+    let d = agree::mix(d, f.count as u64);
+    let d = agree::mix_state(d, f.state);
+    agree::mix_bytes(agree::mix_bytes(d, main), local)
+}
+
+fn by_rule(
+    g: Going,
+    store: &[u64],
+    main: &mut [u8],
+    local: &mut [u8],
+    t: Trial,
+    counts: &mut [u32],
+) -> Going {
+    let f = run::run(store, main, local, t.state, t.budget);
+    let ending = f.ending;
+    agree::tally(counts, number_of(ending) as usize);
+    Going {
+        x: g.x,
+        digest: mix_finished(g.digest, f, main, local),
+        cycles: std::num::wrapping_add_u64(g.cycles, f.count as u64),
+    }
+}
+
+fn by_table(digest: u64, store: &[u64], main: &mut [u8], local: &mut [u8], t: Trial) -> u64 {
+    let f = run::run_by_table(store, main, local, t.state, t.budget);
+    mix_finished(digest, f, main, local)
+}
+
+// The run with what is lent of each storage: the rule has the first pair of storages, the table the second.
+fn lend(
+    t: Trial,
+    g: Going,
+    store: &[u64],
+    main: &mut [u8],
+    local: &mut [u8],
+    main_t: &mut [u8],
+    local_t: &mut [u8],
+    counts: &mut [u32],
+) -> Going {
+    let words = agree::at_most(t.words, store.len());
+    let m = agree::at_most(t.main, main.len());
+    let l = agree::at_most(t.local, local.len());
+    let ruled = by_rule(
+        g,
+        &store[0..words],
+        &mut main[0..m],
+        &mut local[0..l],
+        t,
+        counts,
+    );
+    let m = agree::at_most(t.main, main_t.len());
+    let l = agree::at_most(t.local, local_t.len());
+    Going {
+        x: ruled.x,
+        digest: by_table(
+            ruled.digest,
+            &store[0..words],
+            &mut main_t[0..m],
+            &mut local_t[0..l],
+            t,
+        ),
+        cycles: ruled.cycles,
+    }
+}
+
+fn case(
+    g: Going,
+    store: &mut [u64],
+    main: &mut [u8],
+    local: &mut [u8],
+    main_t: &mut [u8],
+    local_t: &mut [u8],
+    counts: &mut [u32],
+) -> Going {
+    let a = agree::next(g.x);
+    let c = agree::next(a);
+    let e = agree::next(c);
+    let t = drawn(a, c, e);
+    let x = fill_store(e, t.rate, store);
+    lend(
+        t,
+        Going {
+            x: x,
+            digest: g.digest,
+            cycles: g.cycles,
+        },
+        store,
+        main,
+        local,
+        main_t,
+        local_t,
+        counts,
+    )
+}
+
+fn runs(
+    store: &mut [u64],
+    main: &mut [u8],
+    local: &mut [u8],
+    main_t: &mut [u8],
+    local_t: &mut [u8],
+) {
+    let mut counts = [0u32; 256];
+    let mut g = Going {
+        x: 23,
+        digest: 5,
+        cycles: 0,
+    };
+    for k in 0..1000u32 {
+        g = case(g, store, main, local, main_t, local_t, &mut counts);
+        if k % 100 == 99 {
+            agree::print_digest(k as u64 + 1, g.digest);
+        }
+    }
+    report(&counts);
+    agree::print_count(b"cycles", g.cycles);
+}
+
+fn report(counts: &[u32]) {
+    agree::print_count(b"stopped", agree::counted(counts, 101));
+    agree::print_count(b"spent", agree::counted(counts, 102));
+    for k in 1..12usize {
+        io::write_all(STDOUT_FILENO, b"refused ");
+        io::print_decimal(STDOUT_FILENO, k as u64);
+        agree::print_count(b"", agree::counted(counts, k));
+    }
+    agree::print_count(b"refused 22", agree::counted(counts, 22));
+}
+
+fn main() {
+    let mut store = [0u64; 4097];
+    let mut main = [0u8; 65537];
+    let mut local = [0u8; 257];
+    let mut main_t = [0u8; 65537];
+    let mut local_t = [0u8; 257];
+    agree::fill(29, &mut main);
+    agree::fill(31, &mut local);
+    agree::fill(29, &mut main_t);
+    agree::fill(31, &mut local_t);
+    runs(&mut store, &mut main, &mut local, &mut main_t, &mut local_t);
+}

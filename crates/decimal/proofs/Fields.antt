@@ -1,0 +1,48 @@
+-- The laws of a field: its digits by place, its value, and a sum by quotient and remainder. Assumes nothing.
+use Prim.Native.Nat.{ℕ, zero, suc, _+_, _*_, _/_, _%_, _^_, _<_}
+use mathlib.Core.Path.{_≡_, refl, sym, ap, _∙_}
+use mathlib.Core.List.{List}
+use mathlib.Core.Bool.{Bool, true}
+use native.Mathlib.Nat.{add-zero, pow-suc, add-mul-div-left, add-mul-mod-self-left, div-eq-of-lt, mod-eq-of-lt}
+use native.Mathlib.Omega.{arith}
+use lib.ListN.{getD}
+use Rattle.digits.specs.Bits.{one}
+use Rattle.digits.specs.Digits.{bothDecimal}
+use Rattle.adder.proofs.Laws.{both-at-most}
+use Rattle.decimal.specs.Value.{value, decimalField}
+use Rattle.decimal.proofs.Pass1.{and-left, and-right}
+use Rattle.decimal.proofs.Pass2.{Sound}
+
+-- a field of decimal digits, byte by byte
+pub field-sound : (main : List ℕ) (a n : ℕ) → decimalField main a n ≡ true → Sound main a n
+field-sound main a zero d i h = absurd (omega arith)
+field-sound main a (suc n) d zero h = rw add-zero (and-left (bothDecimal (getD main a 0)) (decimalField main (a + 1) n) d)
+field-sound main a (suc n) d (suc i) h =
+    let e : a + 1 + i ≡ a + suc i = omega arith in
+    rw e at (field-sound main (a + 1) n (and-right (bothDecimal (getD main a 0)) (decimalField main (a + 1) n) d) i (omega arith))
+
+pub sound-field : (main : List ℕ) (a n : ℕ) → Sound main a n → decimalField main a n ≡ true
+sound-field main a zero s = refl
+sound-field main a (suc n) s =
+    let d : bothDecimal (getD main a 0) ≡ true = rw add-zero at (s 0 (omega arith)) in
+    rw d (sound-field main (a + 1) n (λ i h. let e : a + 1 + i ≡ a + suc i = omega arith in rw e (s (suc i) (omega arith))))
+
+-- n bytes write less than 100^n
+pub value-lt : (main : List ℕ) (a n : ℕ) → Sound main a n → value main a n < 100 ^ n
+unfolding value
+value-lt main a zero s = omega arith
+value-lt main a (suc n) s =
+    let v = value-lt main a n (λ i h. s i (omega arith)) in
+    let b = both-at-most (getD main (a + n) 0) (s n (omega arith)) in
+    rw pow-suc (omega arith)
+
+-- a value and a carry above it
+module _ (v p sum : ℕ) (k : Bool) (h : v < p) (e : v + p * one k ≡ sum) where
+  pub remainder : v ≡ sum % p
+  remainder = sym (mod-eq-of-lt h) ∙ sym (add-mul-mod-self-left v p (one k)) ∙ ap (λ (n : ℕ). n % p) e
+
+  pub quotient : one k ≡ sum / p
+  quotient =
+      let z : v / p ≡ 0 = div-eq-of-lt h in
+      let q : (v + p * one k) / p ≡ v / p + one k = add-mul-div-left v (one k) (omega arith) in
+      omega (arith, z, q, ap (λ (n : ℕ). n / p) e)

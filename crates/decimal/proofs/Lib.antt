@@ -1,0 +1,10 @@
+pub mod Steps
+pub mod Packed
+pub mod Pairs
+pub mod Pass1
+pub mod Pass2
+pub mod Fields
+pub mod Whole
+pub mod Kept
+pub mod Checks
+pub mod Promises

@@ -1,0 +1,40 @@
+-- That no second answer fits, and the paper's numbers to check by. Assumes nothing.
+use Prim.Native.Nat.{ℕ}
+use mathlib.Core.Path.{_≡_, refl}
+use mathlib.Core.List.{List, [], _∷_}
+use denote.Ref.{now}
+use Rattle.digits.specs.Refusal.{first}
+use Rattle.digits.proofs.Sole.{sole}
+use Rattle.machine.specs.declared.State.{State}
+use Rattle.decimal.specs.Entry.{addChecks, result}
+use Rattle.decimal.specs.declared.Added.{Added}
+use Rattle.decimal.proofs.words.Reads as words
+use Rattle.decimal.proofs.start.Reads as start
+use Rattle.decimal.proofs.add.Reads as add
+
+-- ---- no second answer fits, nor a second storage
+
+pub words-sole : (κs : _) (args : _) (r q : List ℕ) (x y : _) → words.Post κs args r x → words.Post κs args q y → r ≡ q
+words-sole κs args r q x y a b = sole a b
+
+pub start-sole : (κs : _) (args : _) (r q : State) (x y : _) → start.Post κs args r x → start.Post κs args q y → r ≡ q
+start-sole κs args r q x y a b = sole a b
+
+pub add-sole : (κs : _) (args : _) (r q : Added) (x y : _) → add.Post κs args r x → add.Post κs args q y → result r (now (x .0)) (now (x .1 .0)) ≡ result q (now (y .0)) (now (y .1 .0))
+add-sole κs args r q x y a b = sole (a .0) (b .0)
+
+-- ---- "Length 16 accepted, 0 and 17 refused by 12. In a storage of 65,536 bytes a field whose last byte is at 65,535 is accepted; one place
+-- further is refused by 13." Fields that touch and the same field twice are accepted, fields one byte nearer are refused by 14.
+
+pub to-check-by :
+    first (addChecks 65536 256 0 16 16)
+    ∷ first (addChecks 65536 256 0 16 0)
+    ∷ first (addChecks 65536 256 0 17 17)
+    ∷ first (addChecks 65536 256 65520 0 16)
+    ∷ first (addChecks 65536 256 65521 0 16)
+    ∷ first (addChecks 65536 256 65520 65520 16)
+    ∷ first (addChecks 65536 256 15 0 16)
+    ∷ first (addChecks 65536 255 65521 0 17)
+    ∷ []
+    ≡ 0 ∷ 12 ∷ 12 ∷ 0 ∷ 13 ∷ 0 ∷ 14 ∷ 1 ∷ []
+to-check-by = refl

@@ -1,0 +1,90 @@
+-- The decimal entry: its checks, and the run of the shipped words. Assumes nothing.
+use Prim.Native.Nat.{ℕ, _+_, _*_, _/_, _%_}
+use mathlib.Core.List.{List, [], _∷_}
+use mathlib.Core.Bool.{Bool, false, cond, not, _&&_, _||_}
+use lib.Dec.{eqb, ltb}
+use lib.ListN.{length}
+use Rattle.digits.specs.Bits.{bit, withBit}
+use Rattle.digits.specs.Refusal.{Check, first, answer}
+use Rattle.machine.specs.Cycle.{storageWrong}
+use Rattle.machine.specs.declared.State.{State}
+use Rattle.run.specs.Run.{Ran, runOf}
+use Rattle.run.specs.declared.Finished.{Finished}
+use Rattle.decimal.specs.Program.{shipped}
+use Rattle.decimal.specs.declared.Added.{Added}
+use Rattle.decimal.specs.declared.Added.the-variants.{Summed, BadDigit, Refused}
+
+-- 12: "decimal length not 1 to 16"
+abbrev pub lengthWrong : ℕ → Bool
+lengthWrong n = ltb n 1 || ltb 16 n
+
+-- 13: "a decimal field's start plus length over main storage's length"
+abbrev pub over : ℕ → ℕ → ℕ → Bool
+over main start n = ltb main (start + n)
+
+-- 14: "decimal fields overlap and do not start together"
+abbrev pub overlap : ℕ → ℕ → ℕ → Bool
+overlap a b n = not (eqb a b) && (ltb a (b + n) && ltb b (a + n))
+
+-- "The decimal entry checks 1 (main and local), 12, 13, 14. One length serves both fields, a start is a field's lowest address"
+abbrev pub addChecks : ℕ → ℕ → ℕ → ℕ → ℕ → List Check
+addChecks main local a b n =
+    (1, storageWrong main local) ∷ (12, lengthWrong n) ∷ (13, over main a n || over main b n) ∷ (14, overlap a b n) ∷ []
+
+-- "from WX 0 with latches off, nothing arriving, main selected, and all registers zero but those that carry addresses, length and carry":
+-- the first field's start in I and J, the second's in U and V, the length in L, the carry in S3
+abbrev pub start : ℕ → ℕ → ℕ → Bool → State
+start a b n carry =
+    record {
+      i = a / 256;
+      j = a % 256;
+      u = b / 256;
+      v = b % 256;
+      l = n;
+      t = 0;
+      d = 0;
+      r = 0;
+      s = withBit 0 3 carry;
+      g = 0;
+      h = 0;
+      m = 0;
+      n = 0;
+      wx = 0;
+      ac = false;
+      «one_bc» = false;
+      z0 = false;
+      «allow_write» = false;
+      «local_selected» = false;
+      arriving = false;
+      «arriving_byte» = 0;
+    }
+
+-- "40 cycles for each byte of that length, and 40 more"
+abbrev pub bound : ℕ → ℕ
+bound n = 40 * n + 40
+
+-- "It then runs the shipped words"
+abbrev pub runFor : List ℕ → List ℕ → ℕ → ℕ → ℕ → Bool → Ran
+runFor main local a b n carry = runOf (bound n) shipped main local (start a b n carry)
+
+-- an answer, and both storages as they then are
+pub record Result : Type 0 where
+  pub answer : Added
+  pub main : List ℕ
+  pub local : List ℕ
+
+abbrev pub result : Added → List ℕ → List ℕ → Result
+result answer main local = record { answer = answer; main = main; local = local }
+
+-- "it answers summed with the carry from S3, or bad digit, by the word it stopped at"
+abbrev pub answered : Finished → Added
+answered f = cond (eqb (f .state .wx) 0x14) (Summed (bit (f .state .s) 3) (f .count)) (BadDigit (f .count))
+
+-- "Its storage and cycle count are that run's"
+abbrev pub fromRun : Ran → Result
+fromRun r = result (answered (r .finished)) (r .main) (r .local)
+
+-- the entry: refused, nothing is touched
+unfoldable pub addOf : List ℕ → List ℕ → ℕ → ℕ → ℕ → Bool → Result
+addOf main local a b n carry =
+    answer (first (addChecks (length main) (length local) a b n)) (λ (number : ℕ). result (Refused number) main local) (fromRun (runFor main local a b n carry))

@@ -1,0 +1,78 @@
+-- Demand 3: what the decimal add comes to. Assumes nothing.
+use Prim.Native.Nat.{ℕ, zero, suc, _+_, _*_, _/_, _%_, _^_, _<_, _≤_}
+use mathlib.Core.Path.{_≡_}
+use mathlib.Core.List.{List}
+use mathlib.Core.Bool.{Bool, true, false, cond, _&&_}
+use mathlib.Core.Logic.{_⊎_, _↔_}
+use lib.ListN.{length, getD}
+use Rattle.digits.specs.Bits.{one}
+use Rattle.digits.specs.Digits.{bothDecimal}
+use Rattle.digits.specs.Refusal.{first, Given}
+use Rattle.run.specs.declared.Ending.the-variants.{Stopped}
+use Rattle.decimal.specs.Value.{value, decimalField}
+use Rattle.decimal.specs.Entry.{addChecks, bound, runFor}
+use Rattle.decimal.specs.declared.Added.{Added}
+use Rattle.decimal.specs.declared.Added.the-variants.{Summed, BadDigit, Refused}
+
+-- the cycles of the first pass until a digit is not 0 to 9: 5 for each byte of both fields that is decimal, 2 or 4 for the one that is not
+unfoldable pub untilBad : List ℕ → ℕ → ℕ → ℕ → ℕ
+untilBad main a b zero = 0
+untilBad main a b (suc n) =
+    cond (bothDecimal (getD main b 0)) (cond (bothDecimal (getD main a 0)) (5 + untilBad main (a + 1) (b + 1) n) 4) 2
+
+-- the cycles that ran
+abbrev pub cyclesIn : Added → ℕ
+cyclesIn (Summed carry count) = count
+cyclesIn (BadDigit count) = count
+cyclesIn (Refused number) = 0
+
+-- both fields and the carry
+abbrev pub total : List ℕ → ℕ → ℕ → ℕ → Bool → ℕ
+total main a b n carry = value main a n + value main b n + one carry
+
+-- if every digit of both fields is 0 to 9
+pub record Sums (main local : List ℕ) (a b n : ℕ) (carry : Bool) (r : Added) (main′ local′ : List ℕ) : Type 0 where
+  pub out : Bool
+  -- summed, with the exact count
+  pub summed : r ≡ Summed out (14 * n + 4)
+  -- the first field's value afterwards is the sum modulo 100^n, and the carry is the quotient
+  pub remainder : value main′ a n ≡ total main a b n carry % 100 ^ n
+  pub quotient : one out ≡ total main a b n carry / 100 ^ n
+  -- every digit of it is 0 to 9
+  pub decimal : decimalField main′ a n ≡ true
+  -- every other byte of main storage, and all of local storage, as before
+  pub size : length main′ ≡ length main
+  pub others : (k : ℕ) → (k < a) ⊎ (a + n ≤ k) → getD main′ k 0 ≡ getD main k 0
+  pub local-kept : local′ ≡ local
+
+-- if any digit is not: bad digit, with the exact count, and all storage as before
+pub record Bad (main local : List ℕ) (a b n : ℕ) (r : Added) (main′ local′ : List ℕ) : Type 0 where
+  pub bad : r ≡ BadDigit (2 + untilBad main a b n)
+  pub main-kept : main′ ≡ main
+  pub local-kept : local′ ≡ local
+
+-- refused: nothing is touched
+pub record Untouched (main local main′ local′ : List ℕ) : Type 0 where
+  pub main-kept : main′ ≡ main
+  pub local-kept : local′ ≡ local
+
+-- every digit of both fields is 0 to 9
+abbrev pub bothFields : List ℕ → ℕ → ℕ → ℕ → Bool
+bothFields main a b n = decimalField main a n && decimalField main b n
+
+-- none of 1, 12, 13, 14 is given
+abbrev pub Accepted : List ℕ → List ℕ → ℕ → ℕ → ℕ → Type 0
+Accepted main local a b n = first (addChecks (length main) (length local) a b n) ≡ 0
+
+-- a and b are the fields' starts, n their length, r the answer, main′ and local′ the storages afterwards
+pub record Promise (main local : List ℕ) (a b n : ℕ) (carry : Bool) (r : Added) (main′ local′ : List ℕ) : Type 0 where
+  -- each number is given exactly when the list of checks gives it, and then nothing is touched
+  pub refused : (number : ℕ) → (r ≡ Refused number) ↔ Given number (addChecks (length main) (length local) a b n)
+  pub untouched : (number : ℕ) → r ≡ Refused number → Untouched main local main′ local′
+  -- accepted, it comes to one of two ends
+  pub sums : Accepted main local a b n → bothFields main a b n ≡ true → Sums main local a b n carry r main′ local′
+  pub bad : Accepted main local a b n → bothFields main a b n ≡ false → Bad main local a b n r main′ local′
+  -- it stops in every case: budget spent cannot be the answer
+  pub stops : Accepted main local a b n → runFor main local a b n carry .finished .ending ≡ Stopped
+  -- at most 40 cycles a byte and 40 more
+  pub few : cyclesIn r ≤ bound n

@@ -1,0 +1,160 @@
+// The shipped decimal add: its words, and the entry that runs them.
+ghost use mathlib.Core.Path.{_≡_};
+ghost use Prim.Native.Nat.{_+_, _-_, _<_, _≤_};
+ghost use lib.ListN.{length};
+ghost use Rattle.digits.specs.Refusal.{first};
+ghost use Rattle.decimal.specs.Program.{shipped};
+ghost use Rattle.decimal.specs.Entry.{lengthWrong, over, overlap, addChecks, start, bound, result, answered, fromRun, runFor, addOf};
+ghost use Rattle.decimal.specs.Promise.{Promise};
+use machine::State;
+use run::Finished;
+
+// Summed has the carry and the count of cycles, a bad digit the count, a refusal its number.
+pub enum Added {
+    Summed(bool, u32),
+    BadDigit(u32),
+    Refused(u8),
+}
+
+// The words as packed. What each is for stands in specs/Program.antt.
+const WORDS: [u64; 21] = [
+    0x01809100150181, // 00
+    0x010812401B6000, // 01
+    0x020043000C6141, // 02
+    0x048812400B6000, // 03
+    0x020A83401D6180, // 04
+    0x048282DF9B7800, // 05
+    0x01801100008000, // 06
+    0x0200B3801E6140, // 07
+    0x01001100108000, // 08
+    0x018B93C01F6181, // 09
+    0x0780131F9C7900, // 0A
+    0x0B00115F807900, // 0B
+    0x0780935F9D7980, // 0C
+    0x0708439F8E7901, // 0D
+    0x070881C0086000, // 0E
+    0x088013DF9F7981, // 0F
+    0x0800B15F807900, // 10
+    0x088811D0077F80, // 11
+    0x088882DF9B7800, // 12
+    0x040B9100150181, // 13
+    0x01801100008000, // 14
+];
+
+// The shipped words, from address 0 on.
+pub fn words() -> [u64; 21]
+    ensures { λ r. ⌜ r ≡ shipped ⌝ }
+{
+    WORDS
+}
+
+// 13, of one field: on any numbers, so the sum is not formed.
+fn over(main: usize, start: usize, length: usize) -> bool
+    ensures { λ r. ⌜ r ≡ over main start length ⌝ }
+{
+    if main < length {
+        return true;
+    }
+    main - length < start
+}
+
+// How far apart two addresses are.
+fn distance(a: usize, b: usize) -> usize
+    ensures { λ r. ⌜ r ≡ (a - b) + (b - a) ⌝ }
+{
+    if a < b { b - a } else { a - b }
+}
+
+// 14: the fields overlap and do not start together.
+fn overlap(a: usize, b: usize, length: usize) -> bool
+    ensures { λ r. ⌜ r ≡ overlap a b length ⌝ }
+{
+    (a != b) & (distance(a, b) < length)
+}
+
+// 1, 12, 13, 14, or 0.
+fn refusal(main: usize, local: usize, a: usize, b: usize, length: usize) -> u8
+    ensures { λ r. ⌜ r ≡ first (addChecks main local a b length) ⌝ }
+{
+    let fourteen = digits::first_of(overlap(a, b, length), 14, 0);
+    let outside = over(main, a, length) | over(main, b, length);
+    let thirteen = digits::first_of(outside, 13, fourteen);
+    let twelve = digits::first_of((length < 1) | (16 < length), 12, thirteen);
+    digits::first_of(machine::storage_wrong(main, local), 1, twelve)
+}
+
+// The state in which the program begins.
+pub fn start(a: u16, b: u16, length: u8, carry: bool) -> State
+    ensures { λ r. ⌜ r ≡ start a b length carry ⌝ }
+{
+    State {
+        i: (a / 256) as u8,
+        j: (a % 256) as u8,
+        u: (b / 256) as u8,
+        v: (b % 256) as u8,
+        l: length,
+        t: 0,
+        d: 0,
+        r: 0,
+        s: digits::with_bit(0, 3, carry),
+        g: 0,
+        h: 0,
+        m: 0,
+        n: 0,
+        wx: 0,
+        ac: false,
+        one_bc: false,
+        z0: false,
+        allow_write: false,
+        local_selected: false,
+        arriving: false,
+        arriving_byte: 0,
+    }
+}
+
+// By the word it stopped at.
+fn answered(f: Finished) -> Added
+    ensures { λ r. ⌜ r ≡ answered f ⌝ }
+{
+    let count = f.count;
+    if f.state.wx == 0x14 {
+        return Added::Summed(digits::bit(f.state.s, 3), count);
+    }
+    Added::BadDigit(count)
+}
+
+fn run_words(main: &mut [u8], local: &mut [u8], a: u16, b: u16, length: u8, carry: bool) -> Added
+    requires { ⌜ length ≤ 16 ⌝ }
+    ensures { λ r. ⌜ result r (now (main .exit)) (now (local .exit)) ≡ fromRun (runFor (now (main .entry)) (now (local .entry)) a b length carry) ⌝ }
+{
+    let store = words();
+    let budget = 40 * (length as u32) + 40;
+    let finished = run::run(&store, main, local, start(a, b, length, carry), budget);
+    answered(finished)
+}
+
+// The first field becomes the sum of both, with the carry. Storage and count are those of the run of the shipped words.
+pub fn add(
+    main: &mut [u8],
+    local: &mut [u8],
+    first: usize,
+    second: usize,
+    length: usize,
+    carry: bool,
+) -> Added
+    ensures run { λ r. ⌜ result r (now (main .exit)) (now (local .exit)) ≡ addOf (now (main .entry)) (now (local .entry)) first second length carry ⌝ }
+    ensures promise { λ r. ⌜ Promise (now (main .entry)) (now (local .entry)) first second length carry r (now (main .exit)) (now (local .exit)) ⌝ }
+{
+    let number = refusal(main.len(), local.len(), first, second, length);
+    if number != 0 {
+        return Added::Refused(number);
+    }
+    run_words(
+        main,
+        local,
+        first as u16,
+        second as u16,
+        length as u8,
+        carry,
+    )
+}

@@ -1,0 +1,4 @@
+pub mod Calls
+pub mod Decks
+pub mod Trips
+pub mod Promises

@@ -1,0 +1,139 @@
+-- What the answers mean, and that no second answer fits. Assumes nothing.
+use Prim.Native.Nat.{ℕ, zero, suc, _^_, _<_}
+use mathlib.Core.Path.{_≡_, refl, ap}
+use mathlib.Core.List.{List}
+use mathlib.Core.Bool.{Bool, true, false, cond}
+use native.Mathlib.Omega.{arith}
+use denote.Ref.{now}
+use lib.Dec.{ltb}
+use lib.ListN.{length}
+use Rattle.digits.specs.Refusal.{first}
+use Rattle.digits.proofs.Sole.{sole}
+use Rattle.word.specs.Layout.{fieldsOf}
+use Rattle.word.specs.declared.Fields.{Fields}
+use Rattle.machine.specs.Cycle.{stops, cycleChecks, wordAt, ranOf, decided, cycleOf}
+use Rattle.machine.specs.declared.State.{State}
+use Rattle.machine.specs.declared.Cycled.{Cycled}
+use Rattle.machine.specs.declared.Cycled.the-variants as C
+use Rattle.machine.proofs.Promises.{refusal-keeps, stop-keeps}
+use Rattle.run.specs.Run.{Ran, runChecks, runBy, runOf}
+use Rattle.run.proofs.Goes.{Machine, machine, Goes, here, next, done}
+use Rattle.panel.specs.Record.{loaded}
+use Rattle.panel.specs.Answers.{RAN, coded, STOPPED, REFUSED, answered, Called, called, short, cycled, cycleCall, ranBy, runCall, stored}
+use Rattle.panel.proofs.panel_take_apart.Reads as take-apart
+use Rattle.panel.proofs.panel_pack.Reads as pack
+use Rattle.panel.proofs.panel_cycle.Reads as cycle
+use Rattle.panel.proofs.panel_run.Reads as run
+use Rattle.panel.proofs.panel_add_decimal.Reads as add-decimal
+use Rattle.panel.proofs.panel_read_deck.Reads as read-deck
+use Rattle.panel.proofs.panel_write_deck.Reads as write-deck
+
+-- ---- "on a refusal changes no lent byte", nor does a stop
+
+-- nothing that was lent has changed
+abbrev pub Untouched : List ℕ → List ℕ → List ℕ → Called → Type 0
+Untouched main local state c = c ≡ called (c .number) main local state
+
+module _ (store main local state : List ℕ) where
+  cycle-same : (a : Cycled) → cycleOf store main local (loaded state) .answer ≡ a
+      → (cycled a (cycleOf store main local (loaded state) .main) (cycleOf store main local (loaded state) .local) state .number ≡ RAN → ⊥)
+      → Untouched main local state (cycled a (cycleOf store main local (loaded state) .main) (cycleOf store main local (loaded state) .local) state)
+  cycle-same (C.Ran t) e h = absurd (h refl)
+  cycle-same (C.Stopped t) e h =
+      let k = stop-keeps store main local (loaded state) t e in
+      λ i. called (coded STOPPED 0 0) (k .in-main i) (k .in-local i) state
+  cycle-same (C.Refused t n f) e h =
+      let k = refusal-keeps store main local (loaded state) t n f e in
+      λ i. called (coded REFUSED n f) (k .in-main i) (k .in-local i) state
+
+  -- a cycle that did not run
+  pub cycle-keeps : (cycleCall store main local state .number ≡ RAN → ⊥) → Untouched main local state (cycleCall store main local state)
+  unfolding cycleCall
+  cycle-keeps = by (ltb (length state) 22) (cycled (cycleOf store main local (loaded state) .answer) (cycleOf store main local (loaded state) .main) (cycleOf store main local (loaded state) .local) state) (cycle-same (cycleOf store main local (loaded state) .answer) refl)
+    where
+      by : (b : Bool) (c : Called) → ((c .number ≡ RAN → ⊥) → Untouched main local state c) → (cond b (short main local state) c .number ≡ RAN → ⊥) → Untouched main local state (cond b (short main local state) c)
+      by true c k h = refl
+      by false c k h = k h
+
+-- no cycles lead nowhere
+goes-none : {store : List ℕ} {n : ℕ} {m x : Machine} → Goes store n m x → n ≡ 0 → x ≡ m
+goes-none here e = refl
+goes-none (next a g) e = absurd (omega arith)
+
+module _ (budget : ℕ) (store main local : List ℕ) (s : State) where
+  none-by : (k : ℕ) → runBy k budget store main local s .finished .count ≡ 0 → (runBy k budget store main local s .main ≡ main) × (runBy k budget store main local s .local ≡ local)
+  none-by (suc k) e = (refl, refl)
+  none-by zero e =
+      let d = done budget 0 store (machine s main local) in
+      let c = d .counted in
+      let x = goes-none (d .goes) (omega arith) in
+      (ap (λ (m : Machine). m .main) x, ap (λ (m : Machine). m .local) x)
+
+  run-none : runOf budget store main local s .finished .count ≡ 0 → (runOf budget store main local s .main ≡ main) × (runOf budget store main local s .local ≡ local)
+  unfolding runOf
+  run-none = none-by (first (runChecks (length store) (length main) (length local) budget))
+
+ran-none : (r : Ran) (main local state : List ℕ) → r .finished .count ≡ 0 → r .main ≡ main → r .local ≡ local → Untouched main local state (ranBy r state)
+ran-none r main local state e em el = rw (e, em, el)
+
+-- a run of which no cycle ran
+pub run-keeps : (store main local state : List ℕ) (budget : ℕ) → runCall store main local state budget .number < 2 ^ 32 → Untouched main local state (runCall store main local state budget)
+unfolding runCall
+run-keeps store main local state budget = by (ltb (length state) 22)
+  where
+    r : Ran
+    r = runOf budget store main local (loaded state)
+
+    by : (b : Bool) → cond b (short main local state) (ranBy r state) .number < 2 ^ 32 → Untouched main local state (cond b (short main local state) (ranBy r state))
+    by true h = refl
+    by false h =
+        let e : r .finished .count ≡ 0 = omega arith in
+        let (m, l) = run-none budget store main local (loaded state) e in
+        ran-none r main local state e m l
+
+-- ---- "With ARRIVING off, .. a cycle writes 0."
+
+abbrev pub Quiet : Cycled → Type 0
+Quiet (C.Ran t) = t .arriving ≡ false → t .«arriving_byte» ≡ 0
+Quiet (C.Stopped t) = Unit {0}
+Quiet (C.Refused t number field) = Unit {0}
+
+ran-quiet : (f : Fields) (main local : List ℕ) (s : State) → Quiet (ranOf f main local s .answer)
+unfolding ranOf
+ran-quiet f main local s h = rw h
+
+decided-quiet : (n : ℕ) (stop : Bool) (f : Fields) (main local : List ℕ) (s : State) → Quiet (decided n stop f main local s .answer)
+decided-quiet (suc n) stop f main local s = tt
+decided-quiet zero true f main local s = tt
+decided-quiet zero false f main local s = ran-quiet f main local s
+
+pub cycle-quiet : (store main local : List ℕ) (s : State) → Quiet (cycleOf store main local s .answer)
+unfolding cycleOf
+cycle-quiet store main local s =
+    let f : Fields = fieldsOf (wordAt store s) in
+    decided-quiet (first (cycleChecks store main local s)) (stops f) f main local s
+
+-- ---- no second answer fits, nor a second state of what is lent
+
+pub take-apart-sole : (κs : _) (args : _) (r q : ℕ) (x y : _) → take-apart.Post κs args r x → take-apart.Post κs args q y → answered r (now (x .1 .1 .0)) ≡ answered q (now (y .1 .1 .0))
+take-apart-sole κs args r q x y a b = sole a b
+
+pub pack-sole : (κs : _) (args : _) (r q : ℕ) (x y : _) → pack.Post κs args r x → pack.Post κs args q y → answered r (now (x .1 .1 .0)) ≡ answered q (now (y .1 .1 .0))
+pack-sole κs args r q x y a b = sole a b
+
+pub cycle-sole : (κs : _) (args : _) (r q : ℕ) (x y : _) → cycle.Post κs args r x → cycle.Post κs args q y
+    → called r (now (x .1 .0)) (now (x .1 .1 .0)) (now (x .1 .1 .1 .0)) ≡ called q (now (y .1 .0)) (now (y .1 .1 .0)) (now (y .1 .1 .1 .0))
+cycle-sole κs args r q x y a b = sole a b
+
+pub run-sole : (κs : _) (args : _) (r q : ℕ) (x y : _) → run.Post κs args r x → run.Post κs args q y
+    → called r (now (x .1 .0)) (now (x .1 .1 .0)) (now (x .1 .1 .1 .0)) ≡ called q (now (y .1 .0)) (now (y .1 .1 .0)) (now (y .1 .1 .1 .0))
+run-sole κs args r q x y a b = sole a b
+
+pub add-decimal-sole : (κs : _) (args : _) (r q : ℕ) (x y : _) → add-decimal.Post κs args r x → add-decimal.Post κs args q y → stored r (now (x .0)) (now (x .1 .0)) ≡ stored q (now (y .0)) (now (y .1 .0))
+add-decimal-sole κs args r q x y a b = sole a b
+
+pub read-deck-sole : (κs : _) (args : _) (r q : ℕ) (x y : _) → read-deck.Post κs args r x → read-deck.Post κs args q y → answered r (now (x .1 .0)) ≡ answered q (now (y .1 .0))
+read-deck-sole κs args r q x y a b = sole a b
+
+pub write-deck-sole : (κs : _) (args : _) (r q : ℕ) (x y : _) → write-deck.Post κs args r x → write-deck.Post κs args q y → answered r (now (x .1 .0)) ≡ answered q (now (y .1 .0))
+write-deck-sole κs args r q x y a b = sole a b

@@ -1,0 +1,37 @@
+-- 19, then the fields. Assumes nothing.
+use lib.ListN.{length}
+use denote.Ref.{now}
+use Rattle.panel.proofs.Calls.{pack-short, room, pack-word, pack-refused}
+use borrow.Author.Needs.{needs}
+use Rattle.panel.proofs.panel_pack.Statement.{statement}
+use Rattle.panel.proofs.panel_pack.Tie as tie
+
+returns : tie.Need-returns
+returns c = pack-short _ _ _ (c .if1 .taken)
+
+fields-in-requires : tie.Need-fields-in-requires
+fields-in-requires c κs = let a = c .before .before .before .args in room (length (now (a .fields))) (length (now (a .word))) (c .if1 .left) .0
+
+slice-write-word : tie.Need-slice-write-word
+slice-write-word c = let a = c .before .before .before .before .before .before .before .before .args in room (length (now (a .fields))) (length (now (a .word))) (c .before .before .before .before .before .if1 .left) .1
+
+returns-2 : tie.Need-returns-2
+returns-2 c = pack-word _ _ _ _ _ (c .before .before .before .before .fields-in .ensures) (c .before .before .before .pack .ensures) (c .before .before .before .before .before .if1 .left) _ (c .before .w .given .1)
+
+returns-3 : tie.Need-returns-3
+returns-3 c = pack-refused _ _ _ _ _ (c .before .before .before .before .fields-in .ensures) (c .before .before .before .pack .ensures) (c .before .before .before .before .before .if1 .left) _ (c .before .number .given .1)
+
+pub panel-pack-spec : {M : Type 1} → statement M
+panel-pack-spec =
+    tie.close
+    (tie.spec
+    returns
+    fields-in-requires
+    (λ c κs. tt)
+    (λ c. search needs)
+    slice-write-word
+    (λ c. search needs)
+    (λ c. search needs)
+    (λ c. search needs)
+    returns-2
+    returns-3)

@@ -1,0 +1,173 @@
+-- What each function of panel.h answers, and what it leaves in all it is lent. Assumes nothing.
+use Prim.Native.Nat.{ℕ, _+_, _*_, _^_}
+use mathlib.Core.List.{List, [], _∷_}
+use mathlib.Core.Bool.{cond, not, _||_}
+use lib.Dec.{eqb, ltb}
+use lib.ListN.{length}
+use Rattle.digits.specs.Bits.{one}
+use Rattle.word.specs.Word.{takenApart, packed}
+use Rattle.word.specs.declared.Apart.{Apart}
+use Rattle.word.specs.declared.Apart.the-variants as A
+use Rattle.word.specs.declared.Packed.{Packed}
+use Rattle.word.specs.declared.Packed.the-variants as P
+use Rattle.machine.specs.Cycle.{Outcome, cycleOf}
+use Rattle.machine.specs.declared.State.{State}
+use Rattle.machine.specs.declared.Cycled.{Cycled}
+use Rattle.machine.specs.declared.Cycled.the-variants as C
+use Rattle.run.specs.Run.{Ran, runOf}
+use Rattle.run.specs.declared.Ending.{Ending}
+use Rattle.run.specs.declared.Ending.the-variants as E
+use Rattle.decimal.specs.Entry.{Result, addOf}
+use Rattle.decimal.specs.declared.Added.{Added}
+use Rattle.decimal.specs.declared.Added.the-variants as D
+use Rattle.deck.specs.Lists.{over}
+use Rattle.deck.specs.Deck.{readOf, wordsAfter, writeOf, deckAfter}
+use Rattle.deck.specs.declared.Reading.{Reading}
+use Rattle.deck.specs.declared.Reading.the-variants as R
+use Rattle.deck.specs.declared.Writing.{Writing}
+use Rattle.deck.specs.declared.Writing.the-variants as W
+use Rattle.panel.specs.Record.{saved, loaded, fieldBytes, fieldsIn}
+
+-- enum panel_kind
+abbrev pub RAN : ℕ
+RAN = 0
+
+abbrev pub STOPPED : ℕ
+STOPPED = 1
+
+abbrev pub REFUSED : ℕ
+REFUSED = 2
+
+abbrev pub SPENT : ℕ
+SPENT = 3
+
+abbrev pub SUMMED : ℕ
+SUMMED = 4
+
+abbrev pub BAD-DIGIT : ℕ
+BAD-DIGIT = 5
+
+-- "kind + 256 * refusal number + 65536 * field of refusal 10 (else 0)"
+abbrev pub coded : ℕ → ℕ → ℕ → ℕ
+coded kind number field = kind + 256 * number + 65536 * field
+
+-- ".. and 2^32 * the cycles that ran"
+abbrev pub counted : ℕ → ℕ → ℕ
+counted code count = code + 2 ^ 32 * count
+
+-- ---- a word
+
+-- a number, and what was lent to be written as it then is
+pub record Answered : Type 0 where
+  pub number : ℕ
+  pub lent : List ℕ
+
+abbrev pub answered : ℕ → List ℕ → Answered
+answered number lent = record { number = number; lent = lent }
+
+-- "0, with the 18 fields other than PN, PA, PS and PC written in word order, one to a byte; or the refusal's number."
+abbrev pub apart : Apart → List ℕ → Answered
+apart (A.Fields f) fields = answered 0 (over (fieldBytes f) fields)
+apart (A.Refused number) fields = answered number fields
+
+-- "19 where fewer than 18 bytes are lent, checked first."
+unfoldable pub takeApartCall : ℕ → ℕ → List ℕ → Answered
+takeApartCall word address fields = cond (ltb (length fields) 18) (answered 19 fields) (apart (takenApart word address) fields)
+
+-- "0, with the word written to word[0]; or the refusal's number."
+abbrev pub joined : Packed → List ℕ → Answered
+joined (P.Word w) word = answered 0 (over (w ∷ []) word)
+joined (P.Refused number) word = answered number word
+
+-- "19 where fewer than 18 fields or no word are lent, checked first; further bytes are not read."
+unfoldable pub packCall : List ℕ → ℕ → List ℕ → Answered
+packCall fields address word =
+    cond (ltb (length fields) 18 || ltb (length word) 1) (answered 19 word) (joined (packed (fieldsIn fields) address) word)
+
+-- ---- a cycle, a run
+
+-- a number, and both storages and the state's record as they then are
+pub record Called : Type 0 where
+  pub number : ℕ
+  pub main : List ℕ
+  pub local : List ℕ
+  pub state : List ℕ
+
+abbrev pub called : ℕ → List ℕ → List ℕ → List ℕ → Called
+called number main local state = record { number = number; main = main; local = local; state = state }
+
+-- a record that is too short: "19 where fewer than 22 bytes of state are lent, checked first"
+abbrev pub short : List ℕ → List ℕ → List ℕ → Called
+short main local state = called (coded REFUSED 19 0) main local state
+
+-- PANEL_RAN, PANEL_STOPPED or PANEL_REFUSED; the record is written by a cycle that ran, and by nothing else
+abbrev pub cycled : Cycled → List ℕ → List ℕ → List ℕ → Called
+cycled (C.Ran s) main local state = called (coded RAN 0 0) main local (over (saved s) state)
+cycled (C.Stopped s) main local state = called (coded STOPPED 0 0) main local state
+cycled (C.Refused s number field) main local state = called (coded REFUSED number field) main local state
+
+abbrev pub cycledBy : Outcome → List ℕ → Called
+cycledBy o state = cycled (o .answer) (o .main) (o .local) state
+
+unfoldable pub cycleCall : List ℕ → List ℕ → List ℕ → List ℕ → Called
+cycleCall store main local state =
+    cond (ltb (length state) 22) (short main local state) (cycledBy (cycleOf store main local (loaded state)) state)
+
+-- PANEL_STOPPED, PANEL_REFUSED or PANEL_SPENT
+abbrev pub endingCode : Ending → ℕ
+endingCode E.Stopped = coded STOPPED 0 0
+endingCode (E.Refused number field) = coded REFUSED number field
+endingCode E.Spent = coded SPENT 0 0
+
+-- the record after so many cycles: where none ran, nothing is written, so that a latch byte of 7 stays 7
+abbrev pub recordAfter : ℕ → State → List ℕ → List ℕ
+recordAfter count s state = cond (eqb count 0) state (over (saved s) state)
+
+abbrev pub ranBy : Ran → List ℕ → Called
+ranBy r state =
+    called (counted (endingCode (r .finished .ending)) (r .finished .count)) (r .main) (r .local) (recordAfter (r .finished .count) (r .finished .state) state)
+
+unfoldable pub runCall : List ℕ → List ℕ → List ℕ → List ℕ → ℕ → Called
+runCall store main local state budget =
+    cond (ltb (length state) 22) (short main local state) (ranBy (runOf budget store main local (loaded state)) state)
+
+-- ---- decimal add
+
+-- a number, and both storages as they then are
+pub record Stored : Type 0 where
+  pub number : ℕ
+  pub main : List ℕ
+  pub local : List ℕ
+
+abbrev pub stored : ℕ → List ℕ → List ℕ → Stored
+stored number main local = record { number = number; main = main; local = local }
+
+-- "kind (PANEL_SUMMED, PANEL_BAD_DIGIT or PANEL_REFUSED) + 256 * refusal number + 65536 * carry out + 2^32 * the cycles that ran"
+abbrev pub addedCode : Added → ℕ
+addedCode (D.Summed carry count) = counted (coded SUMMED 0 (one carry)) count
+addedCode (D.BadDigit count) = counted (coded BAD-DIGIT 0 0) count
+addedCode (D.Refused number) = counted (coded REFUSED number 0) 0
+
+abbrev pub addedBy : Result → Stored
+addedBy o = stored (addedCode (o .answer)) (o .main) (o .local)
+
+-- "carry_in: off at 0, on otherwise"
+unfoldable pub addDecimalCall : List ℕ → List ℕ → ℕ → ℕ → ℕ → ℕ → Stored
+addDecimalCall main local first second n carry = addedBy (addOf main local first second n (not (eqb carry 0)))
+
+-- ---- a deck
+
+-- "the count of words, or of bytes, that were written, and 65536 * refusal number (the count is then 0)"
+abbrev pub readNumber : Reading → ℕ
+readNumber (R.Words count) = count
+readNumber (R.Refused number) = 65536 * number
+
+abbrev pub writeNumber : Writing → ℕ
+writeNumber (W.Bytes count) = count
+writeNumber (W.Refused number) = 65536 * number
+
+unfoldable pub readDeckCall : List ℕ → List ℕ → Answered
+readDeckCall deck words = answered (readNumber (readOf deck (length words))) (wordsAfter deck words)
+
+unfoldable pub writeDeckCall : List ℕ → List ℕ → Answered
+writeDeckCall words deck = answered (writeNumber (writeOf words (length deck))) (deckAfter words deck)

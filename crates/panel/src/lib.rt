@@ -1,0 +1,195 @@
+// The panel's C interface, include/panel.h: bytes in, bytes out, over the libraries.
+mod record;
+
+ghost use mathlib.Core.Path.{_≡_};
+ghost use Prim.Native.Nat.{_≤_};
+ghost use lib.ListN.{length};
+ghost use Rattle.panel.specs.Answers.{coded, counted, answered, takeApartCall, packCall, called, cycleCall, endingCode, recordAfter, runCall, stored, addedCode, addDecimalCall, readDeckCall, writeDeckCall};
+use decimal::Added;
+use deck::Reading;
+use deck::Writing;
+use machine::Cycled;
+use machine::State;
+use run::Ending;
+use word::Apart;
+use word::Packed;
+
+// enum panel_kind.
+const RAN: u8 = 0;
+
+const STOPPED: u8 = 1;
+
+const REFUSED: u8 = 2;
+
+const SPENT: u8 = 3;
+
+const SUMMED: u8 = 4;
+
+const BAD_DIGIT: u8 = 5;
+
+// PANEL_STATE, the record's length, and how many fields a word is taken apart into.
+const STATE: usize = 22;
+
+const FIELDS: usize = 18;
+
+// kind + 256 * refusal number + 65536 * field.
+fn coded(kind: u8, number: u8, field: u8) -> u32
+    ensures { λ r. ⌜ r ≡ coded kind number field ⌝ }
+{
+    kind as u32 + 256 * number as u32 + 65536 * field as u32
+}
+
+// With 2^32 * the cycles that ran.
+fn counted(code: u32, count: u32) -> u64
+    ensures { λ r. ⌜ r ≡ counted code count ⌝ }
+{
+    code as u64 + 0x1_0000_0000 * count as u64
+}
+
+// 0 and the 18 fields, or the refusal's number.
+#[no_mangle]
+pub extern "C" fn panel_take_apart(word: u64, address: u32, fields: &mut [u8]) -> u32
+    ensures { λ r. ⌜ answered r (now (fields .exit)) ≡ takeApartCall word address (now (fields .entry)) ⌝ }
+{
+    if fields.len() < FIELDS {
+        return 19;
+    }
+    match word::take_apart(word, address) {
+        Apart::Fields(f) => {
+            record::put_fields(f, fields);
+            0
+        }
+        Apart::Refused(number) => number as u32,
+    }
+}
+
+// 0 and the word, or the refusal's number.
+#[no_mangle]
+pub extern "C" fn panel_pack(fields: &[u8], address: u32, word: &mut [u64]) -> u32
+    ensures { λ r. ⌜ answered r (now (word .exit)) ≡ packCall (now (fields .entry)) address (now (word .entry)) ⌝ }
+{
+    if (fields.len() < FIELDS) | (word.len() < 1) {
+        return 19;
+    }
+    match word::pack(record::fields_in(fields), address) {
+        Packed::Word(w) => {
+            word[0] = w;
+            0
+        }
+        Packed::Refused(number) => number as u32,
+    }
+}
+
+// One cycle. The record is written by a cycle that ran, and by nothing else.
+#[no_mangle]
+pub extern "C" fn panel_cycle(
+    store: &[u64],
+    main: &mut [u8],
+    local: &mut [u8],
+    state: &mut [u8],
+) -> u32
+    ensures { λ r. ⌜ called r (now (main .exit)) (now (local .exit)) (now (state .exit)) ≡ cycleCall (now (store .entry)) (now (main .entry)) (now (local .entry)) (now (state .entry)) ⌝ }
+{
+    if state.len() < STATE {
+        return coded(REFUSED, 19, 0);
+    }
+    match machine::cycle(store, main, local, record::load(state)) {
+        Cycled::Ran(s) => {
+            record::save(s, state);
+            coded(RAN, 0, 0)
+        }
+        Cycled::Stopped(_) => coded(STOPPED, 0, 0),
+        Cycled::Refused(_, number, field) => coded(REFUSED, number, field),
+    }
+}
+
+fn ending_code(ending: Ending) -> u32
+    ensures { λ r. ⌜ r ≡ endingCode ending ⌝ }
+{
+    match ending {
+        Ending::Stopped => coded(STOPPED, 0, 0),
+        Ending::Refused(number, field) => coded(REFUSED, number, field),
+        Ending::Spent => coded(SPENT, 0, 0),
+    }
+}
+
+// The record after so many cycles: where none ran, nothing is written.
+fn save_after(count: u32, s: State, state: &mut [u8])
+    requires { ⌜ 22 ≤ length (now state) ⌝ }
+    ensures { λ _. ⌜ now (state .exit) ≡ recordAfter count s (now (state .entry)) ⌝ }
+{
+    if count == 0 {
+        return;
+    }
+    record::save(s, state);
+}
+
+// A run.
+#[no_mangle]
+pub extern "C" fn panel_run(
+    store: &[u64],
+    main: &mut [u8],
+    local: &mut [u8],
+    state: &mut [u8],
+    budget: u32,
+) -> u64
+    ensures { λ r. ⌜ called r (now (main .exit)) (now (local .exit)) (now (state .exit)) ≡ runCall (now (store .entry)) (now (main .entry)) (now (local .entry)) (now (state .entry)) budget ⌝ }
+{
+    if state.len() < STATE {
+        return counted(coded(REFUSED, 19, 0), 0);
+    }
+    let finished = run::run(store, main, local, record::load(state), budget);
+    let count = finished.count;
+    let last = finished.state;
+    let ending = finished.ending;
+    save_after(count, last, state);
+    counted(ending_code(ending), count)
+}
+
+// The carry out stands where a refusal's field stands.
+fn added_code(added: Added) -> u64
+    ensures { λ r. ⌜ r ≡ addedCode added ⌝ }
+{
+    match added {
+        Added::Summed(carry, count) => counted(coded(SUMMED, 0, record::latch(carry)), count),
+        Added::BadDigit(count) => counted(coded(BAD_DIGIT, 0, 0), count),
+        Added::Refused(number) => counted(coded(REFUSED, number, 0), 0),
+    }
+}
+
+// Decimal add: first field += second field.
+#[no_mangle]
+pub extern "C" fn panel_add_decimal(
+    main: &mut [u8],
+    local: &mut [u8],
+    first: usize,
+    second: usize,
+    length: usize,
+    carry: u8,
+) -> u64
+    ensures { λ r. ⌜ stored r (now (main .exit)) (now (local .exit)) ≡ addDecimalCall (now (main .entry)) (now (local .entry)) first second length carry ⌝ }
+{
+    added_code(decimal::add(main, local, first, second, length, carry != 0))
+}
+
+// Deck to words: the count of words, or 65536 * refusal number.
+#[no_mangle]
+pub extern "C" fn panel_read_deck(deck: &[u8], words: &mut [u64]) -> u32
+    ensures { λ r. ⌜ answered r (now (words .exit)) ≡ readDeckCall (now (deck .entry)) (now (words .entry)) ⌝ }
+{
+    match deck::read(deck, words) {
+        Reading::Words(count) => count as u32,
+        Reading::Refused(number) => 65536 * number as u32,
+    }
+}
+
+// Words to deck: the count of bytes, or 65536 * refusal number.
+#[no_mangle]
+pub extern "C" fn panel_write_deck(words: &[u64], deck: &mut [u8]) -> u32
+    ensures { λ r. ⌜ answered r (now (deck .exit)) ≡ writeDeckCall (now (words .entry)) (now (deck .entry)) ⌝ }
+{
+    match deck::write(words, deck) {
+        Writing::Bytes(count) => count as u32,
+        Writing::Refused(number) => 65536 * number as u32,
+    }
+}

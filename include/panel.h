@@ -1,0 +1,58 @@
+/* The panel's C interface: what a lamp board's host links, and what tests outside the project drive.
+ *
+ * Each function is `#[no_mangle] pub extern "C"` of the crate `panel`; a Rattle slice passes as a pointer and
+ * then a length. Nothing is required of a caller but that pointer and length are true: each function tests its
+ * own input, always returns, and on a refusal changes no lent byte. The numbers are document 01's.
+ */
+#ifndef PANEL_INTERFACE /* not PANEL_H, which is a lamp channel */
+#define PANEL_INTERFACE
+
+#include <stddef.h>
+#include <stdint.h>
+
+/* A state is 22 bytes, the lamp channels in document 01's order. A latch byte is off at 0 and on at any other
+ * value; a cycle that ran writes 0 or 1. With ARRIVING off, ARRIVING_BYTE means nothing and a cycle writes 0. */
+enum panel_channel {
+    PANEL_I, PANEL_J, PANEL_U, PANEL_V, PANEL_L, PANEL_T, PANEL_D, PANEL_R, PANEL_S, PANEL_G, PANEL_H, PANEL_M,
+    PANEL_N,
+    PANEL_WX_HIGH, PANEL_WX_LOW, /* WX, 16 bits, high byte first */
+    PANEL_AC, PANEL_1BC, PANEL_Z0,
+    PANEL_ALLOW_WRITE,
+    PANEL_LOCAL,    /* the storage kind last selected: 0 main, 1 local */
+    PANEL_ARRIVING, PANEL_ARRIVING_BYTE,
+    PANEL_STATE     /* = 22, the record's length */
+};
+
+enum panel_kind { PANEL_RAN = 0, PANEL_STOPPED = 1, PANEL_REFUSED = 2, PANEL_SPENT = 3, PANEL_SUMMED = 4, PANEL_BAD_DIGIT = 5 };
+
+/* The fields of a word by place, high end first: CN 1, PN 2, PA 3, CH 4, CL 5, CM 6, CU 7, CA 8, AA 9, CB 10,
+ * CK 11, AK 12, PK 13, PS 14, CD 15, CF 16, CG 17, CV 18, CC 19, CS 20, AS 21, PC 22. Refusal 10 names one. */
+
+/* 0, with the 18 fields other than PN, PA, PS and PC written in word order, one to a byte; or the refusal's
+ * number. 19 where fewer than 18 bytes are lent, checked first. */
+uint32_t panel_take_apart(uint64_t word, uint32_t address, uint8_t *fields, size_t fields_len);
+
+/* 0, with the word written to word[0]; or the refusal's number. 19 where fewer than 18 fields or no word are
+ * lent, checked first; further bytes are not read. */
+uint32_t panel_pack(const uint8_t *fields, size_t fields_len, uint32_t address, uint64_t *word, size_t word_len);
+
+/* One cycle. kind + 256 * refusal number + 65536 * field of refusal 10 (else 0). PANEL_RAN, PANEL_STOPPED or
+ * PANEL_REFUSED. 19 where fewer than 22 bytes of state are lent, checked first. */
+uint32_t panel_cycle(const uint64_t *store, size_t words, uint8_t *main, size_t main_len,
+                     uint8_t *local, size_t local_len, uint8_t *state, size_t state_len);
+
+/* A run. The same three parts, and 2^32 * the cycles that ran. PANEL_STOPPED, PANEL_REFUSED or PANEL_SPENT. */
+uint64_t panel_run(const uint64_t *store, size_t words, uint8_t *main, size_t main_len,
+                   uint8_t *local, size_t local_len, uint8_t *state, size_t state_len, uint32_t budget);
+
+/* Decimal add: first field += second field. kind (PANEL_SUMMED, PANEL_BAD_DIGIT or PANEL_REFUSED)
+ * + 256 * refusal number + 65536 * carry out + 2^32 * the cycles that ran. carry_in: off at 0, on otherwise. */
+uint64_t panel_add_decimal(uint8_t *main, size_t main_len, uint8_t *local, size_t local_len,
+                           size_t first, size_t second, size_t length, uint8_t carry_in);
+
+/* Deck to words and words to deck: the count of words, or of bytes, that were written, and
+ * 65536 * refusal number (the count is then 0). */
+uint32_t panel_read_deck(const uint8_t *deck, size_t deck_len, uint64_t *words, size_t room);
+uint32_t panel_write_deck(const uint64_t *words, size_t count, uint8_t *deck, size_t room);
+
+#endif

@@ -1,0 +1,144 @@
+//! Single cycles: drawn words, states and storage sizes, by rule and by table.
+
+use super::draw::{bits, drawn_state, near, word_for};
+use super::{digest_line, drawn_bytes, mix_bytes, mix_state};
+use crate::cycle::{cycle, cycle_by_table, Answer};
+use crate::random::{mix, Random};
+use crate::state::{State, M, N};
+use crate::word::LAYOUT;
+
+/// A case: the word that stands at WX, the state, and how much of each storage is lent.
+struct Trial {
+    word: u64,
+    state: State,
+    words: usize,
+    main: usize,
+    local: usize,
+}
+
+const MAIN_SIZES: [usize; 8] = [65536, 65536, 65536, 65536, 1, 255, 256, 257];
+const STORE_SIZES: [usize; 8] = [4096, 4096, 4096, 4095, 1, 2, 256, 1000];
+
+/// One WX of 32 is any number, and the others lie in the store.
+fn drawn_wx(words: usize, x: u64) -> u16 {
+    if x.is_multiple_of(32) {
+        (x / 32) as u16
+    } else {
+        (x / 32 % words as u64) as u16
+    }
+}
+
+fn drawn(random: &mut Random) -> Trial {
+    let [a, b, c, e, f, g] = std::array::from_fn(|_| random.next());
+    let words = STORE_SIZES[usize::from(bits(f, 8, 3))];
+    let main = MAIN_SIZES[usize::from(bits(f, 11, 3))];
+    let wx = drawn_wx(words, g);
+    let state = drawn_state(c, e, wx);
+    let close = main < 65536 && bits(f, 14, 2) != 0;
+    let mut trial = Trial {
+        word: word_for(a, b, f >> 16, u32::from(wx % 4096)),
+        state: if close { near(state) } else { state },
+        words,
+        main,
+        local: 256,
+    };
+    // Some sizes are wrong, each in one of six ways.
+    match f % 256 {
+        0 => trial.words = 0,
+        1 => trial.words = 4097,
+        2 => trial.main = 0,
+        3 => trial.main = 65537,
+        4 => trial.local = 255,
+        5 => trial.local = 257,
+        _ => (),
+    }
+    trial
+}
+
+/// Main and local storage, more than a case is lent at most.
+#[derive(Clone)]
+struct Storages {
+    main: Vec<u8>,
+    local: Vec<u8>,
+}
+
+type Engine = fn(&[u64], &mut [u8], &mut [u8], &mut State) -> Answer;
+
+/// The engine's answer, and the digest after it, the state and the bytes that the state before it addresses.
+fn answer(engine: Engine, digest: u64, trial: &Trial, store: &[u64], storages: &mut Storages) -> (Answer, u64) {
+    let (main, local) = (&mut storages.main[..trial.main], &mut storages.local[..trial.local]);
+    let mut state = trial.state;
+    let answer = engine(&store[..trial.words], main, local, &mut state);
+    let (number, field) = match answer {
+        Answer::Ran => (RAN, 0),
+        Answer::Stopped => (STOPPED, 0),
+        Answer::Refused { number, field } => (usize::from(number), field),
+    };
+    let n = usize::from(trial.state.registers[N]);
+    let at = usize::from(trial.state.registers[M]) * 256 + n;
+    let byte = |bytes: &[u8], at: usize| u64::from(bytes.get(at).copied().unwrap_or(0));
+    let digest = mix(digest, number as u64 * 256 + u64::from(field));
+    let digest = mix_state(digest, &state);
+    (answer, mix(digest, byte(main, at) * 256 + byte(local, n)))
+}
+
+// Where an answer is counted; a refusal is at its number.
+const RAN: usize = 100;
+const STOPPED: usize = 101;
+
+#[derive(Default)]
+struct Counts {
+    ran: u32,
+    stopped: u32,
+    refused: [u32; 12],
+    field: [u32; 23],
+}
+
+impl Counts {
+    fn count(&mut self, answer: Answer) {
+        match answer {
+            Answer::Ran => self.ran += 1,
+            Answer::Stopped => self.stopped += 1,
+            Answer::Refused { number, field } => {
+                self.refused[usize::from(number)] += 1;
+                self.field[usize::from(field)] += 1;
+            }
+        }
+    }
+
+    fn report(&self) -> String {
+        let mut text = format!("ran {}\nstopped {}\n", self.ran, self.stopped);
+        for number in 1..12 {
+            text += &format!("refused {number} {}\n", self.refused[number]);
+        }
+        for name in ["CH", "CL", "CM", "CU", "CA", "AA", "AK", "CD", "CS", "AS"] {
+            let place = LAYOUT.iter().position(|(field, _)| *field == name).unwrap();
+            text += &format!("{name} {}\n", self.field[place + 1]);
+        }
+        text
+    }
+}
+
+pub fn text() -> String {
+    let mut store = vec![0; 4097];
+    let mut by_rule = Storages { main: drawn_bytes(17, 65537), local: drawn_bytes(19, 257) };
+    let mut by_table = by_rule.clone();
+    let (mut random, mut digest) = (Random::new(13), 4);
+    let (mut counts, mut text) = (Counts::default(), String::new());
+    for block in 1..=24 {
+        for _ in 0..10_000 {
+            let trial = drawn(&mut random);
+            if let Some(word) = store.get_mut(usize::from(trial.state.wx)) {
+                *word = trial.word;
+            }
+            let (ruled, after) = answer(cycle, digest, &trial, &store, &mut by_rule);
+            counts.count(ruled);
+            digest = answer(cycle_by_table, after, &trial, &store, &mut by_table).1;
+        }
+        for storages in [&by_rule, &by_table] {
+            digest = mix_bytes(mix_bytes(digest, &storages.main), &storages.local);
+        }
+        text += &digest_line(block * 10_000, digest);
+    }
+    text + &counts.report()
+}

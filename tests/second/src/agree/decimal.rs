@@ -1,0 +1,193 @@
+//! Decimal adds: every length and carry, bad digits in every place, one field twice, the ends of storage, and each
+//! refusal. Result, carry and storage are by whole numbers; the count of cycles is that of this engine's own run of the
+//! shipped words, which must end as the whole numbers say.
+
+use super::{digest_line, drawn_bytes, mix_bytes};
+use crate::bits::{bit, from_digits};
+use crate::decimal::{add_decimal, Outcome};
+use crate::random::{mix, Random};
+use crate::run::{run, Ending};
+use crate::state::{State, I, J, L, S, U, V};
+
+/// The shipped words, as crates/decimal has them.
+const SHIPPED: [u64; 21] = [
+    0x01809100150181,
+    0x010812401B6000,
+    0x020043000C6141,
+    0x048812400B6000,
+    0x020A83401D6180,
+    0x048282DF9B7800,
+    0x01801100008000,
+    0x0200B3801E6140,
+    0x01001100108000,
+    0x018B93C01F6181,
+    0x0780131F9C7900,
+    0x0B00115F807900,
+    0x0780935F9D7980,
+    0x0708439F8E7901,
+    0x070881C0086000,
+    0x088013DF9F7981,
+    0x0800B15F807900,
+    0x088811D0077F80,
+    0x088882DF9B7800,
+    0x040B9100150181,
+    0x01801100008000,
+];
+
+/// The word at which a run that summed stops.
+const SUMMED_AT: u16 = 0x14;
+
+struct Trial {
+    main: usize,
+    local: usize,
+    first: usize,
+    second: usize,
+    length: usize,
+    carry: bool,
+}
+
+const MAIN_SIZES: [usize; 8] = [48, 48, 48, 48, 48, 48, 300, 65536];
+
+/// Near the start of storage, or near its end so that a field ends there or runs over.
+fn field_start(main: usize, x: u64) -> usize {
+    let place = (x / 4 % 34) as usize;
+    if x.is_multiple_of(4) {
+        main.saturating_sub(place)
+    } else {
+        place
+    }
+}
+
+fn drawn_length(x: u64) -> usize {
+    if x.is_multiple_of(16) {
+        (x / 16 % 20) as usize
+    } else {
+        (x / 16 % 16 + 1) as usize
+    }
+}
+
+fn drawn(a: u64, b: u64) -> Trial {
+    let main = MAIN_SIZES[(a >> 8) as usize % 8];
+    let mut trial = Trial {
+        main,
+        local: 256,
+        first: field_start(main, b),
+        second: field_start(main, b >> 16),
+        length: drawn_length(a >> 16),
+        carry: a >> 12 & 1 == 1,
+    };
+    match a % 64 {
+        0 => trial.main = 0,
+        1 => trial.main = 65537,
+        2 => trial.local = 255,
+        3 => trial.local = 257,
+        4 => trial.length = usize::MAX,
+        5 => trial.first = usize::MAX,
+        6 => trial.second = usize::MAX - 7,
+        7..=14 => trial.second = trial.first,
+        _ => (),
+    }
+    trial
+}
+
+/// Good digits in every byte, which one time in four are all nines and one time in four all zeros.
+fn fill_digits(random: &mut Random, style: u64, bytes: &mut [u8]) {
+    for byte in bytes {
+        let x = random.next();
+        *byte = match style % 4 {
+            1 => 0x99,
+            2 => 0,
+            _ => from_digits((x / 256 / 16 % 10) as u8, (x / 256 % 10) as u8),
+        };
+    }
+}
+
+/// A bad digit in one byte of storage, near the start of a field.
+fn spoil(main: &mut [u8], start: usize, x: u64) {
+    let at = start.saturating_add((x >> 8) as usize % 18);
+    if let Some(byte) = main.get_mut(at) {
+        *byte = (x >> 16) as u8;
+    }
+}
+
+/// This engine's run of the shipped words: whether it summed, with which carry, and its count of cycles.
+fn run_shipped(main: &mut [u8], local: &mut [u8], trial: &Trial) -> (Outcome, u64) {
+    let mut state = State::default();
+    let bytes = |start: usize| (start as u16).to_be_bytes();
+    [state.registers[I], state.registers[J]] = bytes(trial.first);
+    [state.registers[U], state.registers[V]] = bytes(trial.second);
+    state.registers[L] = trial.length as u8;
+    state.registers[S] = u8::from(trial.carry) << 4;
+    let (ending, count) = run(&SHIPPED, main, local, &mut state, 40 * trial.length as u64 + 40);
+    assert_eq!(ending, Ending::Stopped);
+    match state.wx {
+        SUMMED_AT => (Outcome::Summed { carry: bit(state.registers[S], 3) }, count),
+        _ => (Outcome::BadDigit, count),
+    }
+}
+
+/// How often each answer was given.
+#[derive(Default)]
+struct Counts {
+    summed: [u32; 2],
+    bad: u32,
+    refused: [u32; 15],
+}
+
+/// The digest after the add by whole numbers, with the count of the shipped words' own run.
+fn answer(digest: u64, trial: &Trial, main: &mut [u8], local: &mut [u8], counts: &mut Counts) -> u64 {
+    let (main, local) = (&mut main[..trial.main], &mut local[..trial.local]);
+    let (mut ran_main, mut ran_local) = (main.to_vec(), local.to_vec());
+    let outcome = add_decimal(main, local, trial.first, trial.second, trial.length, trial.carry);
+    if let Outcome::Refused { number } = outcome {
+        counts.refused[usize::from(number)] += 1;
+        return mix(digest, u64::from(number) + 16);
+    }
+    let (ran, count) = run_shipped(&mut ran_main, &mut ran_local, trial);
+    assert!(
+        ran == outcome && ran_main == main && ran_local == local,
+        "the shipped words give {ran:?} where whole numbers give {outcome:?}: {} bytes at {} and {}",
+        trial.length,
+        trial.first,
+        trial.second
+    );
+    match outcome {
+        Outcome::Summed { carry } => {
+            counts.summed[usize::from(carry)] += 1;
+            mix(mix(digest, u64::from(carry)), count)
+        }
+        _ => {
+            counts.bad += 1;
+            mix(mix(digest, 2), count)
+        }
+    }
+}
+
+pub fn text() -> String {
+    let (mut main, mut local) = (drawn_bytes(59, 65537), drawn_bytes(61, 257));
+    let (mut random, mut digest) = (Random::new(53), 9);
+    let (mut counts, mut text) = (Counts::default(), String::new());
+    for k in 1..=40_000 {
+        let [a, b, c] = std::array::from_fn(|_| random.next());
+        let trial = drawn(a, b);
+        let end = main.len() - 64;
+        fill_digits(&mut random, c >> 8, &mut main[..300]);
+        fill_digits(&mut random, c >> 10, &mut main[end..]);
+        match c % 8 {
+            0 => spoil(&mut main, trial.first, c >> 3),
+            1 => spoil(&mut main, trial.second, c >> 3),
+            _ => (),
+        }
+        digest = answer(digest, &trial, &mut main, &mut local, &mut counts);
+        digest = mix_bytes(mix_bytes(mix_bytes(digest, &main[..300]), &main[end..]), &local);
+        if k % 4000 == 0 {
+            text += &digest_line(k, mix_bytes(digest, &main));
+        }
+    }
+    text += &format!("summed with no carry {}\nsummed with a carry {}\n", counts.summed[0], counts.summed[1]);
+    text += &format!("bad digit {}\n", counts.bad);
+    for number in [1, 12, 13, 14] {
+        text += &format!("refused {number} {}\n", counts.refused[number]);
+    }
+    text
+}

@@ -1,0 +1,166 @@
+//! Drawn words and states, number for number as the proved library `agree` draws them.
+
+use crate::state::{State, I, J, L, M, N, T, U, V};
+use crate::word::{index_of, pack, with_right_pk, Fields};
+
+/// The modelled codes of a field, some of them more than once.
+const CH: [u8; 16] = [0, 1, 2, 3, 6, 7, 8, 9, 10, 11, 12, 13, 14, 15, 0, 1];
+const CL: [u8; 16] = [0, 1, 2, 5, 6, 7, 8, 9, 10, 11, 13, 14, 2, 1, 0, 5];
+const CM: [u8; 16] = [0, 1, 2, 3, 4, 5, 0, 2, 3, 4, 5, 3, 4, 5, 1, 2];
+const CA: [u8; 16] = [4, 5, 7, 8, 9, 10, 11, 12, 13, 14, 15, 4, 5, 7, 8, 9];
+const CD: [u8; 16] = [0, 5, 6, 7, 8, 9, 10, 11, 12, 13, 14, 15, 0, 7, 6, 5];
+const CF: [u8; 16] = [0, 1, 2, 3, 5, 6, 7, 3, 3, 3, 3, 3, 5, 6, 7, 3];
+const CS: [u8; 16] = [0, 1, 2, 3, 4, 6, 7, 8, 9, 10, 11, 12, 13, 0, 3, 9];
+
+/// The bits of `x` from `low` up, as many as `width`.
+pub fn bits(x: u64, low: u32, width: u32) -> u8 {
+    (x >> low) as u8 & (((1u16 << width) - 1) as u8)
+}
+
+fn pick(codes: &[u8; 16], x: u64, low: u32) -> u8 {
+    codes[usize::from(bits(x, low, 4))]
+}
+
+/// A modelled CU beside these two, with which CA and K do not both go to W.
+fn drawn_cu(cl: u8, cm: u8, x: u64) -> u8 {
+    match (cm, cl, bits(x, 20, 2)) {
+        (0..=2, 2, _) => 0,
+        (0..=2, _, code) => code % 2 * 2,
+        (_, _, 2) => 0,
+        (_, _, code) => code,
+    }
+}
+
+/// Modelled fields that do not stop. Where CL = 2 any CA is modelled.
+pub fn modelled(a: u64, b: u64) -> Fields {
+    let (cl, cm) = (pick(&CL, a, 12), pick(&CM, a, 16));
+    let ca = if cl == 2 { bits(a, 24, 4) } else { pick(&CA, a, 24) };
+    // In word order: CN CH CL CM CU CA AA CB CK AK PK, and CD CF CG CV CC CS AS.
+    with_right_pk([
+        bits(a, 0, 6),
+        pick(&CH, a, 8),
+        cl,
+        cm,
+        drawn_cu(cl, cm, a),
+        ca,
+        0,
+        bits(a, 28, 2),
+        bits(a, 32, 4),
+        0,
+        bits(a, 36, 1),
+        pick(&CD, b, 0),
+        pick(&CF, b, 4),
+        bits(b, 8, 2),
+        bits(b, 10, 2),
+        bits(b, 12, 3),
+        pick(&CS, b, 15),
+        0,
+    ])
+}
+
+/// Fields of any codes within their widths, with PK right.
+pub fn raw(a: u64, b: u64) -> Fields {
+    with_right_pk([
+        bits(a, 0, 6),
+        bits(a, 8, 4),
+        bits(a, 12, 4),
+        bits(a, 16, 3),
+        bits(a, 20, 2),
+        bits(a, 24, 4),
+        bits(a, 33, 1),
+        bits(a, 28, 2),
+        bits(a, 34, 4),
+        bits(a, 38, 1),
+        bits(a, 39, 1),
+        bits(b, 0, 4),
+        bits(b, 4, 3),
+        bits(b, 8, 2),
+        bits(b, 10, 2),
+        bits(b, 12, 3),
+        bits(b, 15, 4),
+        bits(b, 19, 1),
+    ])
+}
+
+/// The fields that may stop a word or have it refused, with their widths.
+const REPLACED: [(&str, u32); 11] = [
+    ("CH", 4),
+    ("CL", 4),
+    ("CM", 3),
+    ("CU", 2),
+    ("CA", 4),
+    ("AA", 1),
+    ("AK", 1),
+    ("CD", 4),
+    ("CS", 4),
+    ("AS", 1),
+    ("CF", 3),
+];
+
+/// The fields with one of those any code of its width.
+fn replaced(mut fields: Fields, which: u64, x: u64) -> Fields {
+    let (name, width) = REPLACED[which as usize];
+    fields[index_of(name)] = bits(x, 0, width);
+    with_right_pk(fields)
+}
+
+/// The fields of a word that sends CA to W and touches CU no more.
+fn to_w(mut fields: Fields) -> Fields {
+    fields[index_of("CL")] = 2;
+    fields[index_of("CM")] %= 3;
+    fields[index_of("CU")] = 0;
+    with_right_pk(fields)
+}
+
+/// The word of the fields, or the number that refuses them, which is no good word.
+pub fn packed(fields: &Fields, address: u32) -> u64 {
+    pack(fields, address).unwrap_or_else(u64::from)
+}
+
+/// PS with the high bit of CU, and with PK: what is turned in a word whose parity is to stay right.
+pub const PS_AND_CU: u64 = 1 << 35 | 1 << 20;
+pub const PS_AND_PK: u64 = 1 << 21 | 1 << 20;
+
+/// A word for the address, of a kind that `x` draws: most are modelled and run.
+pub fn word_for(a: u64, b: u64, x: u64, address: u32) -> u64 {
+    let rest = x / 64;
+    match x % 64 {
+        0..=43 => packed(&modelled(a, b), address),
+        44..=49 => packed(&replaced(modelled(a, b), rest % 11, rest / 16), address),
+        50..=53 => packed(&raw(a, b), address),
+        54..=59 => packed(&modelled(a, b), address) ^ 1 << (rest % 64),
+        60 => packed(&modelled(a, b), (rest % 4096) as u32),
+        61 => packed(&to_w(modelled(a, b)), address) ^ PS_AND_CU,
+        62 => packed(&modelled(a, b), address) ^ PS_AND_PK,
+        _ => a / 512,
+    }
+}
+
+pub fn drawn_state(c: u64, e: u64, wx: u16) -> State {
+    let mut registers = [0; 13];
+    registers[..8].copy_from_slice(&c.to_le_bytes());
+    registers[8..].copy_from_slice(&e.to_le_bytes()[..5]);
+    let latch = |place: u32| bits(e, 40 + place, 1) == 1;
+    State {
+        registers,
+        wx,
+        ac: latch(0),
+        bc1: latch(1),
+        z0: latch(2),
+        allow_write: latch(3),
+        local: latch(4),
+        arriving: latch(5),
+        arriving_byte: bits(e, 56, 8),
+    }
+}
+
+/// The state with every pair that addresses storage near 0, 255 or 511.
+pub fn near(mut state: State) -> State {
+    for high in [I, U, L, M] {
+        state.registers[high] = u8::from(state.registers[high] % 4 == 3);
+    }
+    for low in [J, V, T, N] {
+        state.registers[low] = [0, 1, 254, 255][usize::from(state.registers[low] % 4)];
+    }
+    state
+}

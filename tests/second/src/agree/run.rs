@@ -1,0 +1,102 @@
+//! Runs: drawn stores, states, sizes and budgets.
+
+use super::draw::{bits, drawn_state, modelled, packed, word_for};
+use super::{digest_line, drawn_bytes, mix_bytes, mix_state};
+use crate::random::{mix, Random};
+use crate::run::{run, Ending, MOST_BUDGET};
+use crate::state::State;
+use crate::word::index_of;
+
+struct Trial {
+    state: State,
+    words: usize,
+    main: usize,
+    local: usize,
+    budget: u64,
+    /// Of 256 words so many are of any kind, and as many again are stops.
+    rate: u64,
+}
+
+const MAIN_SIZES: [usize; 8] = [65536, 65536, 65536, 65536, 65536, 1, 256, 257];
+const STORE_SIZES: [usize; 8] = [4096, 4096, 4096, 4096, 1, 256, 257, 4000];
+const BUDGETS: [u64; 16] = [1000, 0, 1, 2, 3, 10, 100, 500, 999, 1000, 1000, 1000, 1000, 1000, 1000, 1_000_001];
+const RATES: [u64; 8] = [0, 0, 1, 1, 1, 2, 8, 32];
+
+fn drawn(random: &mut Random) -> Trial {
+    let [a, c, e] = std::array::from_fn(|_| random.next());
+    let choice = |low: u32, width: u32| usize::from(bits(a, low, width));
+    let mut trial = Trial {
+        state: drawn_state(c, e, u16::from(bits(a, 32, 8))),
+        words: STORE_SIZES[choice(8, 3)],
+        main: MAIN_SIZES[choice(11, 3)],
+        local: 256,
+        budget: BUDGETS[choice(14, 4)],
+        rate: RATES[choice(18, 3)],
+    };
+    // The largest budget is drawn seldom: a run may spend it.
+    if choice(14, 4) == 0 && choice(40, 2) == 0 {
+        trial.budget = MOST_BUDGET;
+    }
+    match a % 256 {
+        0 => trial.words = 0,
+        1 => trial.words = 4097,
+        2 => trial.main = 0,
+        3 => trial.main = 65537,
+        4 => trial.local = 255,
+        5 => trial.local = 257,
+        _ => (),
+    }
+    trial
+}
+
+fn store_word(random: &mut Random, rate: u64, address: u32) -> u64 {
+    let [a, b, x] = std::array::from_fn(|_| random.next());
+    let mut fields = modelled(a, b);
+    match x % 256 {
+        // A kind that is seldom a word that runs.
+        roll if roll < rate => word_for(a, b, (x >> 16) * 64 + 44 + (x >> 8) % 20, address),
+        roll if roll < 2 * rate => {
+            fields[index_of("CF")] = 4;
+            packed(&fields, address)
+        }
+        _ => packed(&fields, address),
+    }
+}
+
+// Where an ending is counted; a refusal is at its number.
+const STOPPED: usize = 101;
+const SPENT: usize = 102;
+
+pub fn text() -> String {
+    let (mut main, mut local) = (drawn_bytes(29, 65537), drawn_bytes(31, 257));
+    let (mut random, mut digest, mut cycles) = (Random::new(23), 5, 0);
+    let (mut counts, mut text) = ([0u32; 103], String::new());
+    for k in 1..=1000 {
+        let trial = drawn(&mut random);
+        let store: Vec<u64> = (0..4097).map(|at| store_word(&mut random, trial.rate, at % 4096)).collect();
+        let (main, local) = (&mut main[..trial.main], &mut local[..trial.local]);
+        let mut state = trial.state;
+        let (ending, count) = run(&store[..trial.words], main, local, &mut state, trial.budget);
+        let (number, field) = match ending {
+            Ending::Stopped => (STOPPED, 0),
+            Ending::Refused { number, field } => (usize::from(number), field),
+            Ending::Spent => (SPENT, 0),
+        };
+        counts[number] += 1;
+        cycles += count;
+        // The run by table must end as the run by rule does.
+        for _ in ["by rule", "by table"] {
+            digest = mix(digest, number as u64 * 256 + u64::from(field));
+            digest = mix_state(mix(digest, count), &state);
+            digest = mix_bytes(mix_bytes(digest, main), local);
+        }
+        if k % 100 == 0 {
+            text += &digest_line(k, digest);
+        }
+    }
+    text += &format!("stopped {}\nspent {}\n", counts[STOPPED], counts[SPENT]);
+    for number in (1..12).chain([22]) {
+        text += &format!("refused {number} {}\n", counts[number]);
+    }
+    text + &format!("cycles {cycles}\n")
+}
