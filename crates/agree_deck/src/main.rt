@@ -1,7 +1,8 @@
-// Decks against tests/second: written, damaged in each part, and read, with rooms too small, exact and larger.
+// Decks against tests/second: written, damaged in each part, read with rooms too small, exact and larger, and listed.
 use deck::Reading;
 use deck::Writing;
 use libc::STDOUT_FILENO;
+use listing::Listed;
 
 // The generator's last number, and the digest.
 struct Going {
@@ -273,7 +274,23 @@ fn read(
     let n = agree::at_most(length_of(bytes_of(words), x / 0x100), deck.len());
     let room = agree::at_most(room_for(words, 4097, x), read.len());
     let answer = deck::read(&deck[0..n], &mut read[0..room]);
-    mix_read(digest, answer, read, counts)
+    let d = mix_read(digest, answer, read, counts);
+    mix_listed(d, &deck[0..n])
+}
+
+// What the lister prints of the deck.
+fn mix_listed(digest: u64, deck: &[u8]) -> u64 {
+    let mut text = [0u8; 77824];
+    let listed = listing::print(deck, &mut text);
+    mix_text(digest, listed, &text)
+}
+
+fn mix_text(digest: u64, listed: Listed, text: &[u8]) -> u64 {
+    let Listed::Text(size) = listed else {
+        return digest;
+    };
+    let n = agree::at_most(size, text.len());
+    agree::mix_bytes(digest, &text[0..n])
 }
 
 fn case(

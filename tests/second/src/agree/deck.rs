@@ -1,8 +1,9 @@
-//! Decks: written, damaged in each part, and read, with rooms too small, exact and larger.
+//! Decks: written, damaged in each part, read with rooms too small, exact and larger, and listed.
 
 use super::draw::{modelled, packed, word_for, PS_AND_CU, PS_AND_PK};
 use super::{digest_line, drawn_bytes, mix_bytes};
 use crate::deck::{read_deck, write_deck, BLOCK, FULL};
+use crate::lister::list;
 use crate::random::{mix, Random};
 use crate::Refusal;
 
@@ -143,6 +144,7 @@ pub fn text() -> String {
         let room = room_for(words, 4097, c);
         digest = mix(digest, read.count(read_deck(&deck[..length], &mut again[..room])));
         digest = again.iter().fold(digest, |digest, word| mix(digest, *word));
+        digest = mix_bytes(digest, list(&deck[..length]).as_bytes());
         if k % 100 == 99 {
             text += &digest_line(k + 1, digest);
         }
