@@ -55,6 +55,13 @@ pub struct Went {
     pub stopped: bool,
 }
 
+fn ended(state: State, stopped: bool) -> Went {
+    Went {
+        state: state,
+        stopped: stopped,
+    }
+}
+
 // Runs until stop, refusal or budget, and shows each cycle and how it ended.
 pub fn go(
     lamps: bool,
@@ -69,10 +76,7 @@ pub fn go(
     loop {
         if done == budget {
             spent();
-            break Went {
-                state: s,
-                stopped: false,
-            };
+            break ended(s, false);
         }
         let sum = machine::next_sum(store, s);
         match machine::cycle(store, main, local, s) {
@@ -83,17 +87,11 @@ pub fn go(
             }
             Cycled::Stopped(last) => {
                 stopped(last.wx);
-                break Went {
-                    state: last,
-                    stopped: true,
-                };
+                break ended(last, true);
             }
             Cycled::Refused(last, number, field) => {
                 refused(number, field, last.wx);
-                break Went {
-                    state: last,
-                    stopped: false,
-                };
+                break ended(last, false);
             }
         }
     }

@@ -19,6 +19,16 @@ pub struct Finished {
     pub count: u32,
 }
 
+fn ended(ending: Ending, state: State, count: u32) -> Finished
+    ensures { λ r. ⌜ r ≡ record { ending = ending; state = state; count = count } ⌝ }
+{
+    Finished {
+        ending: ending,
+        state: state,
+        count: count,
+    }
+}
+
 // One cycle, by the rule or by the table.
 fn one(by_table: bool, store: &[u64], main: &mut [u8], local: &mut [u8], state: State) -> Cycled
     ensures { λ r. ⌜ outcome r (now (main .exit)) (now (local .exit)) ≡ cycleOf (now (store .entry)) (now (main .entry)) (now (local .entry)) state ⌝ }
@@ -43,11 +53,7 @@ fn cycles(
     let mut done: u32 = 0;
     loop {
         if done == budget {
-            break Finished {
-                ending: Ending::Spent,
-                state: now,
-                count: done,
-            };
+            break ended(Ending::Spent, now, done);
         }
         match one(by_table, store, main, local, now) {
             Cycled::Ran(next) => {
@@ -55,18 +61,10 @@ fn cycles(
                 done = done + 1;
             }
             Cycled::Stopped(last) => {
-                break Finished {
-                    ending: Ending::Stopped,
-                    state: last,
-                    count: done,
-                };
+                break ended(Ending::Stopped, last, done);
             }
             Cycled::Refused(last, number, field) => {
-                break Finished {
-                    ending: Ending::Refused(number, field),
-                    state: last,
-                    count: done,
-                };
+                break ended(Ending::Refused(number, field), last, done);
             }
         }
     }
@@ -85,11 +83,7 @@ fn run_with(
     let wrong = machine::sizes_wrong(store.len(), main.len(), local.len());
     let number = digits::first_of(wrong, 1, digits::first_of(1000000 < budget, 22, 0));
     if number != 0 {
-        return Finished {
-            ending: Ending::Refused(number, 0),
-            state: state,
-            count: 0,
-        };
+        return ended(Ending::Refused(number, 0), state, 0);
     }
     cycles(by_table, store, main, local, state, budget)
 }

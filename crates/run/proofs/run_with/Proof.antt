@@ -1,16 +1,19 @@
 -- 1, 22, then the cycles. Assumes nothing.
-use mathlib.Core.Path.{_∙_}
+use mathlib.Core.Path.{ap, _∙_}
 use borrow.Author.Needs.{needs}
 use denote.Ref.{now}
+use Rattle.run.specs.Run.{ran}
+use Rattle.run.specs.declared.Finished.{Finished}
 use Rattle.run.proofs.Runs.{refused-at-once, goes-on}
 use Rattle.run.proofs.run_with.Statement.{statement}
 use Rattle.run.proofs.run_with.Tie as tie
 
 returns : tie.Need-returns
 returns c =
-    let a = c .before .before .before .before .before .before .before .args in
-    refused-at-once (a .budget) (now (a .store)) (now (a .main)) (now (a .local)) (a .state) _
-    (rw (c .before .first-of2 .ensures, c .before .before .first-of .ensures, c .before .before .before .sizes-wrong .ensures)) (c .if1 .taken)
+    let a = c .before .before .before .before .before .before .before .before .args in
+    ap (λ (f : Finished). ran f (now (a .main)) (now (a .local))) (c .ended .ensures)
+    ∙ refused-at-once (a .budget) (now (a .store)) (now (a .main)) (now (a .local)) (a .state) _
+    (rw (c .before .before .first-of2 .ensures, c .before .before .before .first-of .ensures, c .before .before .before .before .sizes-wrong .ensures)) (c .before .if1 .taken)
 
 returns-2 : tie.Need-returns-2
 returns-2 c =
@@ -20,4 +23,15 @@ returns-2 c =
     (rw (c .before .before .before .before .before .before .before .before .first-of2 .ensures, c .before .before .before .before .before .before .before .before .before .first-of .ensures, c .before .before .before .before .before .before .before .before .before .before .sizes-wrong .ensures)) (c .before .before .before .before .before .before .before .if1 .left)
 
 pub run-with-spec : {M : Type 1} → statement M
-run-with-spec = tie.close (tie.spec (λ c κs. tt) (λ c κs. tt) (λ c κs. tt) returns (λ c κs. tt) (λ c. search needs) (λ c. search needs) returns-2)
+run-with-spec =
+    tie.close
+    (tie.spec
+    (λ c κs. tt)
+    (λ c κs. tt)
+    (λ c κs. tt)
+    (λ c κs. tt)
+    returns
+    (λ c κs. tt)
+    (λ c. search needs)
+    (λ c. search needs)
+    returns-2)
