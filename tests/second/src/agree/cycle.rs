@@ -1,6 +1,6 @@
 //! Single cycles: drawn words, states and storage sizes, by rule and by table.
 
-use super::draw::{bits, drawn_state, near, word_for};
+use super::draw::{bits, drawn_state, near, word_for, Lent};
 use super::{digest_line, drawn_bytes, mix_bytes, mix_state};
 use crate::cycle::{cycle, cycle_by_table, Answer};
 use crate::random::{mix, Random};
@@ -11,9 +11,7 @@ use crate::word::LAYOUT;
 struct Trial {
     word: u64,
     state: State,
-    words: usize,
-    main: usize,
-    local: usize,
+    lent: Lent,
 }
 
 const MAIN_SIZES: [usize; 8] = [65536, 65536, 65536, 65536, 1, 255, 256, 257];
@@ -35,24 +33,11 @@ fn drawn(random: &mut Random) -> Trial {
     let wx = drawn_wx(words, g);
     let state = drawn_state(c, e, wx);
     let close = main < 65536 && bits(f, 14, 2) != 0;
-    let mut trial = Trial {
+    Trial {
         word: word_for(a, b, f >> 16, u32::from(wx % 4096)),
         state: if close { near(state) } else { state },
-        words,
-        main,
-        local: 256,
-    };
-    // Some sizes are wrong, each in one of six ways.
-    match f % 256 {
-        0 => trial.words = 0,
-        1 => trial.words = 4097,
-        2 => trial.main = 0,
-        3 => trial.main = 65537,
-        4 => trial.local = 255,
-        5 => trial.local = 257,
-        _ => (),
+        lent: Lent { words, main, local: 256 }.seldom_wrong(f),
     }
-    trial
 }
 
 /// Main and local storage, more than a case is lent at most.
@@ -66,9 +51,9 @@ type Engine = fn(&[u64], &mut [u8], &mut [u8], &mut State) -> Answer;
 
 /// The engine's answer, and the digest after it, the state and the bytes that the state before it addresses.
 fn answer(engine: Engine, digest: u64, trial: &Trial, store: &[u64], storages: &mut Storages) -> (Answer, u64) {
-    let (main, local) = (&mut storages.main[..trial.main], &mut storages.local[..trial.local]);
+    let (main, local) = (&mut storages.main[..trial.lent.main], &mut storages.local[..trial.lent.local]);
     let mut state = trial.state;
-    let answer = engine(&store[..trial.words], main, local, &mut state);
+    let answer = engine(&store[..trial.lent.words], main, local, &mut state);
     let (number, field) = match answer {
         Answer::Ran => (RAN, 0),
         Answer::Stopped => (STOPPED, 0),

@@ -1,7 +1,7 @@
 //! Drawn words and states, number for number as the proved library `agree` draws them.
 
 use crate::state::{State, I, J, L, M, N, T, U, V};
-use crate::word::{index_of, pack, with_right_pk, Fields};
+use crate::word::{index_of, pack, with_right_pk, Fields, GIVEN, LAYOUT};
 
 /// The modelled codes of a field, some of them more than once.
 const CH: [u8; 16] = [0, 1, 2, 3, 6, 7, 8, 9, 10, 11, 12, 13, 14, 15, 0, 1];
@@ -82,25 +82,13 @@ pub fn raw(a: u64, b: u64) -> Fields {
     ])
 }
 
-/// The fields that may stop a word or have it refused, with their widths.
-const REPLACED: [(&str, u32); 11] = [
-    ("CH", 4),
-    ("CL", 4),
-    ("CM", 3),
-    ("CU", 2),
-    ("CA", 4),
-    ("AA", 1),
-    ("AK", 1),
-    ("CD", 4),
-    ("CS", 4),
-    ("AS", 1),
-    ("CF", 3),
-];
+/// The fields that may stop a word or have it refused.
+const REPLACED: [&str; 11] = ["CH", "CL", "CM", "CU", "CA", "AA", "AK", "CD", "CS", "AS", "CF"];
 
 /// The fields with one of those any code of its width.
 fn replaced(mut fields: Fields, which: u64, x: u64) -> Fields {
-    let (name, width) = REPLACED[which as usize];
-    fields[index_of(name)] = bits(x, 0, width);
+    let index = index_of(REPLACED[which as usize]);
+    fields[index] = bits(x, 0, LAYOUT[GIVEN[index]].1);
     with_right_pk(fields)
 }
 
@@ -133,6 +121,28 @@ pub fn word_for(a: u64, b: u64, x: u64, address: u32) -> u64 {
         61 => packed(&to_w(modelled(a, b)), address) ^ PS_AND_CU,
         62 => packed(&modelled(a, b), address) ^ PS_AND_PK,
         _ => a / 512,
+    }
+}
+
+/// How many words of the store, and bytes of each storage, are lent.
+pub struct Lent {
+    pub words: usize,
+    pub main: usize,
+    pub local: usize,
+}
+
+impl Lent {
+    /// These sizes, or, for six choices of 256, one of them wrong in one of six ways.
+    pub fn seldom_wrong(self, choice: u64) -> Lent {
+        match choice % 256 {
+            0 => Lent { words: 0, ..self },
+            1 => Lent { words: 4097, ..self },
+            2 => Lent { main: 0, ..self },
+            3 => Lent { main: 65537, ..self },
+            4 => Lent { local: 255, ..self },
+            5 => Lent { local: 257, ..self },
+            _ => self,
+        }
     }
 }
 

@@ -1,6 +1,6 @@
 //! Runs: drawn stores, states, sizes and budgets.
 
-use super::draw::{bits, drawn_state, modelled, packed, word_for};
+use super::draw::{bits, drawn_state, modelled, packed, word_for, Lent};
 use super::{digest_line, drawn_bytes, mix_bytes, mix_state};
 use crate::random::{mix, Random};
 use crate::run::{run, Ending, MOST_BUDGET};
@@ -9,9 +9,7 @@ use crate::word::index_of;
 
 struct Trial {
     state: State,
-    words: usize,
-    main: usize,
-    local: usize,
+    lent: Lent,
     budget: u64,
     /// Of 256 words so many are of any kind, and as many again are stops.
     rate: u64,
@@ -27,24 +25,13 @@ fn drawn(random: &mut Random) -> Trial {
     let choice = |low: u32, width: u32| usize::from(bits(a, low, width));
     let mut trial = Trial {
         state: drawn_state(c, e, u16::from(bits(a, 32, 8))),
-        words: STORE_SIZES[choice(8, 3)],
-        main: MAIN_SIZES[choice(11, 3)],
-        local: 256,
+        lent: Lent { words: STORE_SIZES[choice(8, 3)], main: MAIN_SIZES[choice(11, 3)], local: 256 }.seldom_wrong(a),
         budget: BUDGETS[choice(14, 4)],
         rate: RATES[choice(18, 3)],
     };
     // The largest budget is drawn seldom: a run may spend it.
     if choice(14, 4) == 0 && choice(40, 2) == 0 {
         trial.budget = MOST_BUDGET;
-    }
-    match a % 256 {
-        0 => trial.words = 0,
-        1 => trial.words = 4097,
-        2 => trial.main = 0,
-        3 => trial.main = 65537,
-        4 => trial.local = 255,
-        5 => trial.local = 257,
-        _ => (),
     }
     trial
 }
@@ -74,9 +61,9 @@ pub fn text() -> String {
     for k in 1..=1000 {
         let trial = drawn(&mut random);
         let store: Vec<u64> = (0..4097).map(|at| store_word(&mut random, trial.rate, at % 4096)).collect();
-        let (main, local) = (&mut main[..trial.main], &mut local[..trial.local]);
+        let (main, local) = (&mut main[..trial.lent.main], &mut local[..trial.lent.local]);
         let mut state = trial.state;
-        let (ending, count) = run(&store[..trial.words], main, local, &mut state, trial.budget);
+        let (ending, count) = run(&store[..trial.lent.words], main, local, &mut state, trial.budget);
         let (number, field) = match ending {
             Ending::Stopped => (STOPPED, 0),
             Ending::Refused { number, field } => (usize::from(number), field),
