@@ -1,14 +1,14 @@
 -- The laws of the sum: of one digit, of a byte by its two digits, and of the answer. Assumes nothing.
 use Prim.Native.Nat.{ℕ, _+_, _-_, _*_, _/_, _%_, _≤_, _<_}
 use mathlib.Core.Path.{_≡_, refl, sym, ap, _∙_}
-use mathlib.Core.Bool.{Bool, true, false, _&&_}
+use mathlib.Core.Bool.{Bool, true, false}
 use mathlib.Core.Logic.{_↔_}
 use native.Mathlib.Nat.{lt-of-le-of-lt}
 use native.Mathlib.Omega.{arith}
 use lib.Bits.{bitAnd, bitOr, bitXor, and-le-l, or-lt, xor-lt}
 use lib.Dec.{eqb, leb}
 use lib.Pow.{field, mod-mod-pow}
-use borrow.Author.Tests.{leb-true, leb-false, le-leb, lt-leb, eqb-true, eq-eqb}
+use borrow.Author.Tests.{leb-true, leb-false, le-leb, eqb-true, eq-eqb}
 use Rattle.digits.specs.Bits.{one}
 use Rattle.digits.proofs.Bits.{one-lt}
 use Rattle.digits.specs.Digits.{high, low, digits, bothDecimal, val}
@@ -17,6 +17,7 @@ use Rattle.adder.specs.Adder.{isDecimal, isComplement, complement, turne
 use Rattle.adder.specs.declared.Controls.{Controls}
 use Rattle.adder.specs.declared.Sum.{Sum}
 use Rattle.digits.proofs.Table.{any}
+use Rattle.digits.proofs.Truth.{both, same-test}
 use Rattle.adder.proofs.Gates.{gated-a-lt, gated-b-lt}
 
 -- ---- one digit
@@ -41,13 +42,6 @@ digit n h = by (leb 16 (n + 6)) refl
     by false e = let t = leb-false 16 (n + 6) e in (omega arith, omega arith)
 
 -- ---- a byte, by its two digits
-
-same-test : (a b c d : ℕ) → (a ≤ b → c ≤ d) → (b < a → d < c) → leb a b ≡ leb c d
-same-test a b c d on off = by (leb a b) refl
-  where
-    by : (t : Bool) → leb a b ≡ t → t ≡ leb c d
-    by true e = sym (le-leb c d (on (leb-true a b e)))
-    by false e = sym (lt-leb c d (off (leb-false a b e)))
 
 carry-is : (sum : ℕ) → sum < 32 → sum / 16 ≡ carry sum
 carry-is sum h = by (leb 16 sum) refl
@@ -93,11 +87,9 @@ pub record Writes (s : Sum) (n : ℕ) : Type 0 where
   pub byte : s .result < 256
 
 pub both-at-most : (byte : ℕ) → bothDecimal byte ≡ true → (high byte ≤ 9) × (low byte ≤ 9)
-both-at-most byte = by (leb (high byte) 9) refl
-  where
-    by : (t : Bool) → leb (high byte) 9 ≡ t → t && leb (low byte) 9 ≡ true → (high byte ≤ 9) × (low byte ≤ 9)
-    by true h l = (leb-true (high byte) 9 h, leb-true (low byte) 9 l)
-    by false h l = absurd (let z : _≡_ {A = ℕ} 0 1 = cc in omega arith)
+both-at-most byte d =
+    let (h, l) = both (leb (high byte) 9) (leb (low byte) 9) d in
+    (leb-true (high byte) 9 h, leb-true (low byte) 9 l)
 
 module _ (h l : ℕ) (hd : h ≤ 9) (ld : l ≤ 9) where
   high-digit : high (digits h l) ≡ h
@@ -179,10 +171,6 @@ module _ (a b c : ℕ) (ad : bothDecimal a ≡ true) (bd : bothDecimal b ≡ tru
       let nd : (high (nines b) ≤ 9) × (low (nines b) ≤ 9) = rw (nines-high b d, nines-low b d) (omega arith, omega arith) in
       rw (complement-raises b d, ← nines-val b d) (raised-writes a (nines b) c (both-at-most a ad) nd bit)
 
-  -- the same, with nothing taken away
-  pub decimal-difference-sum : let s = arithmetic true a (complement b) c in val (s .result) + 100 * one (s .ac) + val b ≡ val a + 99 + c
-  decimal-difference-sum = let d = both-at-most b bd in omega (arith, decimal-difference .value)
-
 -- ---- binary sums
 
 pub binary-sum : (a b c : ℕ) → a < 256 → b < 256 → c < 2 → let s = arithmetic false a b c in s .result + 256 * one (s .ac) ≡ a + b + c
@@ -195,7 +183,7 @@ binary-sum a b c ab bb bit = by (leb 256 (a + b + c)) refl
 
 -- ---- every answer
 
-arithmetic-byte : (decimal : Bool) (a b c : ℕ) → arithmetic decimal a b c .result < 256
+pub arithmetic-byte : (decimal : Bool) (a b c : ℕ) → arithmetic decimal a b c .result < 256
 unfolding arithmetic
 arithmetic-byte false a b c = omega arith
 arithmetic-byte true a b c =
@@ -242,9 +230,3 @@ module _ (a b : ℕ) (c : Controls) where
 
   pub zero-exactly : (sumOf a b c .z0 ≡ true) ↔ (sumOf a b c .result ≡ 0)
   zero-exactly = (λ z. eqb-true _ 0 (sym zero-test ∙ z), λ r. zero-test ∙ eq-eqb _ 0 r)
-
--- at controls that are written out, what is left is the sum
-pub written-out : (a b : ℕ) (s0 s3 : Bool)
-    → sumOf a b (record { cf = 3; cg = 3; cv = 3; cc = 6; s0 = s0; s3 = s3 }) ≡ arithmetic true a (entering true s0 b) (one s3)
-unfolding sumOf
-written-out a b s0 s3 = refl

@@ -6,7 +6,7 @@ use mathlib.Core.List.{List}
 use lib.Dec.{T, eqb, leb}
 use lib.ListN.{length}
 use Rattle.digits.specs.Bits.{one}
-use Rattle.digits.proofs.Table.{every}
+use Rattle.digits.specs.Table.{every}
 use Rattle.adder.specs.Adder.{corrected}
 use Rattle.adder.specs.declared.Uncorrected.{Uncorrected}
 

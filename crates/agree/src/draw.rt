@@ -117,19 +117,21 @@ pub fn raw(a: u64, b: u64) -> Fields {
 fn replaced(f: Fields, which: u64, x: u64) -> Fields {
     let four = (x % 16) as u8;
     let one = (x % 2) as u8;
+    let mut f = f;
     match which {
-        0 => Fields { ch: four, ..f },
-        1 => Fields { cl: four, ..f },
-        2 => Fields { cm: four % 8, ..f },
-        3 => Fields { cu: four % 4, ..f },
-        4 => Fields { ca: four, ..f },
-        5 => Fields { aa: one, ..f },
-        6 => Fields { ak: one, ..f },
-        7 => Fields { cd: four, ..f },
-        8 => Fields { cs: four, ..f },
-        9 => Fields { asb: one, ..f },
-        _ => Fields { cf: four % 8, ..f },
+        0 => f.ch = four,
+        1 => f.cl = four,
+        2 => f.cm = four % 8,
+        3 => f.cu = four % 4,
+        4 => f.ca = four,
+        5 => f.aa = one,
+        6 => f.ak = one,
+        7 => f.cd = four,
+        8 => f.cs = four,
+        9 => f.asb = one,
+        _ => f.cf = four % 8,
     }
+    f
 }
 
 // The fields of a word that sends CA to W and touches CU no more.

@@ -39,15 +39,17 @@ fn drawn_wx(words: usize, x: u64) -> u16 {
 
 // The sizes of one case of 43 are wrong, each in one of six ways.
 fn wrong_size(which: u64, c: Trial) -> Trial {
+    let mut c = c;
     match which {
-        0 => Trial { words: 0, ..c },
-        1 => Trial { words: 4097, ..c },
-        2 => Trial { main: 0, ..c },
-        3 => Trial { main: 65537, ..c },
-        4 => Trial { local: 255, ..c },
-        5 => Trial { local: 257, ..c },
-        _ => c,
+        0 => c.words = 0,
+        1 => c.words = 4097,
+        2 => c.main = 0,
+        3 => c.main = 65537,
+        4 => c.local = 255,
+        5 => c.local = 257,
+        _ => (),
     }
+    c
 }
 
 fn drawn(a: u64, b: u64, c: u64, e: u64, f: u64, g: u64) -> Trial {
@@ -141,15 +143,13 @@ fn by_table(digest: u64, store: &[u64], main: &mut [u8], local: &mut [u8], s: St
     mix_answer(digest, answer, main, local, s)
 }
 
-// The case with what is lent of each storage: the rule has the first pair of storages, the table the second.
-fn lend(
+// The case by the rule, with what is lent of each storage; its word is put first.
+fn lend_to_rule(
     c: Trial,
     digest: u64,
     store: &mut [u64],
     main: &mut [u8],
     local: &mut [u8],
-    main_t: &mut [u8],
-    local_t: &mut [u8],
     numbers: &mut [u32],
     fields: &mut [u32],
 ) -> u64 {
@@ -157,7 +157,7 @@ fn lend(
     let words = agree::at_most(c.words, store.len());
     let m = agree::at_most(c.main, main.len());
     let l = agree::at_most(c.local, local.len());
-    let d = by_rule(
+    by_rule(
         digest,
         &store[0..words],
         &mut main[0..m],
@@ -165,14 +165,19 @@ fn lend(
         c.state,
         numbers,
         fields,
-    );
-    let m = agree::at_most(c.main, main_t.len());
-    let l = agree::at_most(c.local, local_t.len());
+    )
+}
+
+// The same by the table, which has storages of its own.
+fn lend_to_table(c: Trial, digest: u64, store: &[u64], main: &mut [u8], local: &mut [u8]) -> u64 {
+    let words = agree::at_most(c.words, store.len());
+    let m = agree::at_most(c.main, main.len());
+    let l = agree::at_most(c.local, local.len());
     by_table(
-        d,
+        digest,
         &store[0..words],
-        &mut main_t[0..m],
-        &mut local_t[0..l],
+        &mut main[0..m],
+        &mut local[0..l],
         c.state,
     )
 }
@@ -194,19 +199,10 @@ fn case(
     let f = agree::next(e);
     let last = agree::next(f);
     let case = drawn(a, b, c, e, f, last);
+    let d = lend_to_rule(case, g.digest, store, main, local, numbers, fields);
     Going {
         x: last,
-        digest: lend(
-            case,
-            g.digest,
-            store,
-            main,
-            local,
-            main_t,
-            local_t,
-            numbers,
-            fields,
-        ),
+        digest: lend_to_table(case, d, store, main_t, local_t),
     }
 }
 

@@ -1,4 +1,5 @@
 // Decks against tests/second: written, damaged in each part, read with rooms too small, exact and larger, and listed.
+ghost use Prim.Native.Nat.{_≤_};
 use deck::Reading;
 use deck::Writing;
 use libc::STDOUT_FILENO;
@@ -124,6 +125,17 @@ fn put_byte(deck: &mut [u8], at: usize, byte: u8) {
     }
 }
 
+// The lowest four bytes of a number.
+fn put_half(deck: &mut [u8], at: usize, v: u64) {
+    if 100000 < at {
+        return;
+    }
+    put_byte(deck, at, (v / 0x100_0000 % 256) as u8);
+    put_byte(deck, at + 1, (v / 0x1_0000 % 256) as u8);
+    put_byte(deck, at + 2, (v / 0x100 % 256) as u8);
+    put_byte(deck, at + 3, (v % 256) as u8);
+}
+
 fn put_group(deck: &mut [u8], at: usize, v: u64) {
     if deck.len() < 8 {
         return;
@@ -131,14 +143,8 @@ fn put_group(deck: &mut [u8], at: usize, v: u64) {
     if deck.len() - 8 < at {
         return;
     }
-    put_byte(deck, at, (v / 0x100_0000_0000_0000) as u8);
-    put_byte(deck, at + 1, (v / 0x1_0000_0000_0000 % 256) as u8);
-    put_byte(deck, at + 2, (v / 0x100_0000_0000 % 256) as u8);
-    put_byte(deck, at + 3, (v / 0x1_0000_0000 % 256) as u8);
-    put_byte(deck, at + 4, (v / 0x100_0000 % 256) as u8);
-    put_byte(deck, at + 5, (v / 0x1_0000 % 256) as u8);
-    put_byte(deck, at + 6, (v / 0x100 % 256) as u8);
-    put_byte(deck, at + 7, (v % 256) as u8);
+    put_half(deck, at, v / 0x1_0000_0000);
+    put_half(deck, at + 4, v % 0x1_0000_0000);
 }
 
 // `v` more in the group at `at`, wrapping.
@@ -154,6 +160,19 @@ fn exchange(deck: &mut [u8], at: usize, check: usize, mask: u64) {
     raise(deck, check, std::num::wrapping_sub_u64(new, old));
 }
 
+// Where a byte is turned, in a block: anywhere, in the number, the count, the reserved bytes or the check.
+fn turned(kind: u64, place: usize) -> usize
+    ensures { λ r. ⌜ r ≤ 511 ⌝ }
+{
+    match kind {
+        3 => place % 2,
+        4 => 2 + place % 2,
+        5 => 4 + place % 4,
+        6 => 504 + place % 8,
+        _ => place % 512,
+    }
+}
+
 // What is done to a block that starts at `at`: nothing, a byte turned anywhere or in the number, the count, the reserved
 // bytes or the check, or groups changed so that the check holds.
 fn damage(deck: &mut [u8], at: usize, x: u64) {
@@ -166,12 +185,11 @@ fn damage(deck: &mut [u8], at: usize, x: u64) {
     let power = 1u64 << (x / 0x1000_0000 % 64);
     let first = (x / 0x100 % 62 + 1) as usize;
     let second = (x / 0x1_0000 % 62 + 1) as usize;
+    if kind < 7 {
+        turn(deck, at + turned(kind, place), mask);
+        return;
+    }
     match kind {
-        0 | 1 | 2 => turn(deck, at + place, mask),
-        3 => turn(deck, at + place % 2, mask),
-        4 => turn(deck, at + 2 + place % 2, mask),
-        5 => turn(deck, at + 4 + place % 4, mask),
-        6 => turn(deck, at + 504 + place % 8, mask),
         7 | 8 | 9 => {
             raise(deck, at + first * 8, power);
             raise(deck, at + second * 8, std::num::wrapping_sub_u64(0, power));

@@ -62,15 +62,17 @@ fn drawn_rate(x: u64) -> u64 {
 
 // The sizes of one run of 43 are wrong, each in one of six ways.
 fn wrong_size(which: u64, t: Trial) -> Trial {
+    let mut t = t;
     match which {
-        0 => Trial { words: 0, ..t },
-        1 => Trial { words: 4097, ..t },
-        2 => Trial { main: 0, ..t },
-        3 => Trial { main: 65537, ..t },
-        4 => Trial { local: 255, ..t },
-        5 => Trial { local: 257, ..t },
-        _ => t,
+        0 => t.words = 0,
+        1 => t.words = 4097,
+        2 => t.main = 0,
+        3 => t.main = 65537,
+        4 => t.local = 255,
+        5 => t.local = 257,
+        _ => (),
     }
+    t
 }
 
 fn drawn(a: u64, c: u64, e: u64) -> Trial {
@@ -166,41 +168,40 @@ fn by_table(digest: u64, store: &[u64], main: &mut [u8], local: &mut [u8], t: Tr
     mix_finished(digest, f, main, local)
 }
 
-// The run with what is lent of each storage: the rule has the first pair of storages, the table the second.
-fn lend(
+// The run by the rule, with what is lent of each storage.
+fn lend_to_rule(
     t: Trial,
     g: Going,
     store: &[u64],
     main: &mut [u8],
     local: &mut [u8],
-    main_t: &mut [u8],
-    local_t: &mut [u8],
     counts: &mut [u32],
 ) -> Going {
     let words = agree::at_most(t.words, store.len());
     let m = agree::at_most(t.main, main.len());
     let l = agree::at_most(t.local, local.len());
-    let ruled = by_rule(
+    by_rule(
         g,
         &store[0..words],
         &mut main[0..m],
         &mut local[0..l],
         t,
         counts,
-    );
-    let m = agree::at_most(t.main, main_t.len());
-    let l = agree::at_most(t.local, local_t.len());
-    Going {
-        x: ruled.x,
-        digest: by_table(
-            ruled.digest,
-            &store[0..words],
-            &mut main_t[0..m],
-            &mut local_t[0..l],
-            t,
-        ),
-        cycles: ruled.cycles,
-    }
+    )
+}
+
+// The same by the table, which has storages of its own.
+fn lend_to_table(t: Trial, digest: u64, store: &[u64], main: &mut [u8], local: &mut [u8]) -> u64 {
+    let words = agree::at_most(t.words, store.len());
+    let m = agree::at_most(t.main, main.len());
+    let l = agree::at_most(t.local, local.len());
+    by_table(
+        digest,
+        &store[0..words],
+        &mut main[0..m],
+        &mut local[0..l],
+        t,
+    )
 }
 
 fn case(
@@ -217,20 +218,12 @@ fn case(
     let e = agree::next(c);
     let t = drawn(a, c, e);
     let x = fill_store(e, t.rate, store);
-    lend(
-        t,
-        Going {
-            x: x,
-            digest: g.digest,
-            cycles: g.cycles,
-        },
-        store,
-        main,
-        local,
-        main_t,
-        local_t,
-        counts,
-    )
+    let ruled = lend_to_rule(t, g, store, main, local, counts);
+    Going {
+        x: x,
+        digest: lend_to_table(t, ruled.digest, store, main_t, local_t),
+        cycles: ruled.cycles,
+    }
 }
 
 fn runs(

@@ -82,22 +82,24 @@ enum Set {
 
 // The state with one register set, by its letter.
 fn register(s: State, name: u8, value: u8) -> Set {
+    let mut s = s;
     match name {
-        b'I' => Set::To(State { i: value, ..s }),
-        b'J' => Set::To(State { j: value, ..s }),
-        b'U' => Set::To(State { u: value, ..s }),
-        b'V' => Set::To(State { v: value, ..s }),
-        b'L' => Set::To(State { l: value, ..s }),
-        b'T' => Set::To(State { t: value, ..s }),
-        b'D' => Set::To(State { d: value, ..s }),
-        b'R' => Set::To(State { r: value, ..s }),
-        b'S' => Set::To(State { s: value, ..s }),
-        b'G' => Set::To(State { g: value, ..s }),
-        b'H' => Set::To(State { h: value, ..s }),
-        b'M' => Set::To(State { m: value, ..s }),
-        b'N' => Set::To(State { n: value, ..s }),
-        _ => Set::Wrong,
+        b'I' => s.i = value,
+        b'J' => s.j = value,
+        b'U' => s.u = value,
+        b'V' => s.v = value,
+        b'L' => s.l = value,
+        b'T' => s.t = value,
+        b'D' => s.d = value,
+        b'R' => s.r = value,
+        b'S' => s.s = value,
+        b'G' => s.g = value,
+        b'H' => s.h = value,
+        b'M' => s.m = value,
+        b'N' => s.n = value,
+        _ => return Set::Wrong,
     }
+    Set::To(s)
 }
 
 fn register_to(s: State, name: u8, value: Value) -> Set {

@@ -1,22 +1,19 @@
 -- The entry's tests as the code makes them: no sum of wild numbers is formed. Assumes nothing.
-use Prim.Native.Nat.{ℕ, _+_, _-_, _<_, _≤_}
+use Prim.Native.Nat.{ℕ, suc, _+_, _-_, _<_, _≤_}
 use mathlib.Core.Path.{_≡_, refl, sym}
 use mathlib.Core.Bool.{Bool, true, false, not, _&&_}
 use native.Mathlib.Omega.{arith}
-use borrow.Author.Tests.{eqb-false, ltb-true, ltb-false, lt-ltb, le-ltb}
+use borrow.Author.Tests.{eqb-false, ltb-true, ltb-false, lt-ltb}
 use lib.Dec.{eqb, ltb}
-use Rattle.decimal.specs.Entry.{over, overlap}
+use Rattle.digits.proofs.Truth.{same-test}
+use Rattle.decimal.specs.Entry.{pastEnd, overlap}
 
 -- a field as long as main storage or longer, and a shorter one
-pub over-long : (main start n : ℕ) → main < n → true ≡ over main start n
-over-long main start n h = sym (lt-ltb main (start + n) (omega arith))
+pub past-long : (main start n : ℕ) → main < n → true ≡ pastEnd main start n
+past-long main start n h = sym (lt-ltb main (start + n) (omega arith))
 
-pub over-is : (main start n : ℕ) → n ≤ main → ltb (main - n) start ≡ over main start n
-over-is main start n h = by (ltb (main - n) start) refl
-  where
-    by : (t : Bool) → ltb (main - n) start ≡ t → t ≡ over main start n
-    by true e = let l = ltb-true (main - n) start e in sym (lt-ltb main (start + n) (omega arith))
-    by false e = let l = ltb-false (main - n) start e in sym (le-ltb main (start + n) (omega arith))
+pub past-is : (main start n : ℕ) → n ≤ main → ltb (main - n) start ≡ pastEnd main start n
+past-is main start n h = same-test (suc (main - n)) start (suc main) (start + n) (λ y. omega arith) (λ n. omega arith)
 
 -- fields overlap where they are nearer than their length
 pub overlap-is : (a b n : ℕ) → not (eqb a b) && ltb ((a - b) + (b - a)) n ≡ overlap a b n

@@ -8,18 +8,18 @@ use native.Mathlib.Omega.{arith}
 use lib.ListN.{getD}
 use Rattle.digits.specs.Bits.{one}
 use Rattle.digits.specs.Digits.{bothDecimal}
+use Rattle.digits.proofs.Truth.{both}
 use Rattle.adder.proofs.Laws.{both-at-most}
 use Rattle.decimal.specs.Value.{value, decimalField}
-use Rattle.decimal.proofs.Pass1.{and-left, and-right}
 use Rattle.decimal.proofs.Pass2.{Sound}
 
 -- a field of decimal digits, byte by byte
 pub field-sound : (main : List ℕ) (a n : ℕ) → decimalField main a n ≡ true → Sound main a n
 field-sound main a zero d i h = absurd (omega arith)
-field-sound main a (suc n) d zero h = rw add-zero (and-left (bothDecimal (getD main a 0)) (decimalField main (a + 1) n) d)
+field-sound main a (suc n) d zero h = rw add-zero (both (bothDecimal (getD main a 0)) (decimalField main (a + 1) n) d .0)
 field-sound main a (suc n) d (suc i) h =
     let e : a + 1 + i ≡ a + suc i = omega arith in
-    rw e at (field-sound main (a + 1) n (and-right (bothDecimal (getD main a 0)) (decimalField main (a + 1) n) d) i (omega arith))
+    rw e at (field-sound main (a + 1) n (both (bothDecimal (getD main a 0)) (decimalField main (a + 1) n) d .1) i (omega arith))
 
 pub sound-field : (main : List ℕ) (a n : ℕ) → Sound main a n → decimalField main a n ≡ true
 sound-field main a zero s = refl

@@ -9,8 +9,11 @@ use borrow.Author.Tests.{lt-leb}
 use lib.ListN.{length, getD}
 use lib.Seq.{set-getD}
 use Rattle.digits.specs.Bits.{one, bit, withBit}
+use Rattle.digits.proofs.Bits.{bit-with}
 use Rattle.digits.specs.Digits.{bothDecimal}
+use Rattle.digits.proofs.Truth.{true-not-false, both}
 use Rattle.adder.specs.Adder.{arithmetic, sumOf}
+use Rattle.adder.proofs.Laws.{arithmetic-byte}
 use Rattle.machine.specs.Sources.{entered, sumIn}
 use Rattle.machine.specs.Branch.{nextOf}
 use Rattle.machine.specs.Storage.{accessOf}
@@ -22,10 +25,10 @@ use Rattle.machine.specs.declared.Cycled.the-variants as C
 use Rattle.run.proofs.Goes.{machine, Goes, here, next, join}
 use Rattle.decimal.specs.Value.{decimalField}
 use Rattle.decimal.specs.Promise.{untilBad}
-use Rattle.decimal.specs.Program.{shipped, fieldsAt}
+use Rattle.decimal.specs.Program.{shipped}
 use Rattle.decimal.proofs.Steps.{idle, stateAfter, Right, Leads, Halts, branch}
-use Rattle.decimal.proofs.Packed.{step, stop}
-use Rattle.decimal.proofs.Pairs.{sum-lt, one-less, some-left, none-left, one-up, s0-kept, s3-is}
+use Rattle.decimal.proofs.Packed.{fieldsAt, step, stop}
+use Rattle.decimal.proofs.Pairs.{one-less, some-left, none-left, moved, s0-kept}
 
 abbrev pub uv : State → ℕ
 uv s = s .u * 256 + s .v
@@ -113,19 +116,19 @@ module _ (main local : List ℕ) (s : State) (r : Ready s) (some : 1 ≤ s .t) w
         l = refl;
         h = refl;
         t = one-less (s .t) some (r .t);
-        u = rw (s3-is (s .s) (arithmetic false (s .v) 0 1 .ac)) (one-up (s .u) (s .v) (r .u) (r .v));
-        i = simp s3-is (one-up (s .i) (s .j) (r .i) (r .j));
+        u = rw (bit-with (s .s) 3 (arithmetic false (s .v) 0 1 .ac)) (moved (s .u) (s .v) 0 1 true (r .u) (r .v) (omega arith) refl);
+        i = simp bit-with (moved (s .i) (s .j) 0 1 true (r .i) (r .j) (omega arith) refl);
       }
 
   pub ready-again : Ready (tested main local s)
   unfolding entered sumIn sumOf accessOf nextOf statusOf
   ready-again =
       record {
-        u = sum-lt (s .u) 0 (bit (withBit (s .s) 3 (arithmetic false (s .v) 0 1 .ac)) 3) (r .u) (omega arith);
-        v = sum-lt (s .v) 0 true (r .v) (omega arith);
-        i = sum-lt (s .i) 0 (bit (after-05 main local s .s) 3) (r .i) (omega arith);
-        j = sum-lt (s .j) 0 true (r .j) (omega arith);
-        t = sum-lt (s .t) 255 false (r .t) (omega arith);
+        u = arithmetic-byte false (s .u) 0 (one (bit (withBit (s .s) 3 (arithmetic false (s .v) 0 1 .ac)) 3));
+        v = arithmetic-byte false (s .v) 0 1;
+        i = arithmetic-byte false (s .i) 0 (one (bit (after-05 main local s .s) 3));
+        j = arithmetic-byte false (s .j) 0 1;
+        t = arithmetic-byte false (s .t) 255 0;
         s0 = simp s0-kept (r .s0);
       }
 
@@ -146,14 +149,6 @@ passed-more k s x y p q =
 
 no-wrap : (a b n len : ℕ) → b ≡ (a + 1) % 65536 → a + suc (suc n) ≤ len → len ≤ 65536 → b ≡ a + 1
 no-wrap a b n len e h k = omega arith
-
-pub and-left : (a b : Bool) → a && b ≡ true → a ≡ true
-and-left true b e = refl
-and-left false b e = e
-
-pub and-right : (a b : Bool) → a && b ≡ true → b ≡ true
-and-right true b e = e
-and-right false b e = absurd (let z : _≡_ {A = ℕ} 0 1 = cc in omega arith)
 
 -- where all digits are decimal, the pass comes to 03
 pub record Good (n : ℕ) (main local : List ℕ) (s : State) : Type 0 where
@@ -217,7 +212,7 @@ module _ (main local : List ℕ) (right : (s : State) → Right shipped (machine
   good zero s r t hu hi du di =
       record {
         x = tested main local s;
-        goes = five s (omega arith) (omega arith) (and-left _ _ du) (and-left _ _ di) true (none-left (s .t) (omega arith) (r .t) t);
+        goes = five s (omega arith) (omega arith) (both _ _ du .0) (both _ _ di .0) true (none-left (s .t) (omega arith) (r .t) t);
         passed = passed-one main local s r (omega arith);
         ready = ready-again main local s r (omega arith);
       }
@@ -227,11 +222,11 @@ module _ (main local : List ℕ) (right : (s : State) → Right shipped (machine
       let ei = no-wrap (ij s) (ij (tested main local s)) n (length main) (p .i) hi fits in
       let g =
       good n (tested main local s) (ready-again main local s r (omega arith)) (omega (arith, p .t)) (omega arith) (omega arith)
-      (rw eu (and-right (bothDecimal (getD main (uv s) 0)) _ du)) (rw ei (and-right (bothDecimal (getD main (ij s) 0)) _ di)) in
+      (rw eu (both (bothDecimal (getD main (uv s) 0)) _ du .1)) (rw ei (both (bothDecimal (getD main (ij s) 0)) _ di .1)) in
       record {
         x = g .x;
         goes = subst (λ (c : ℕ). Goes shipped c (machine (idle 0x02 s) main local) (machine (idle 0x03 (g .x)) main local)) (omega arith)
-            (join (five s (omega arith) (omega arith) (and-left _ _ du) (and-left _ _ di) false (some-left (s .t) (omega arith) (r .t) (omega arith))) (g .goes));
+            (join (five s (omega arith) (omega arith) (both _ _ du .0) (both _ _ di .0) false (some-left (s .t) (omega arith) (r .t) (omega arith))) (g .goes));
         passed = passed-more (suc n) s (tested main local s) (g .x) p (g .passed);
         ready = g .ready;
       }
@@ -249,7 +244,7 @@ module _ (main local : List ℕ) (right : (s : State) → Right shipped (machine
   pub bad : (n : ℕ) (s : State) → Ready s → s .t ≡ suc n → uv s + suc n ≤ length main → ij s + suc n ≤ length main
       → decimalField main (ij s) (suc n) && decimalField main (uv s) (suc n) ≡ false → Bad (suc n) main local s
   bad zero s r t hu hi e =
-      early 0 s (omega arith) (omega arith) (λ du di. let f : true ≡ false = rw (di, du) at e in absurd (let z : _≡_ {A = ℕ} 0 1 = cc in omega arith))
+      early 0 s (omega arith) (omega arith) (λ du di. absurd (true-not-false refl (rw (di, du) at e)))
   bad (suc n) s r t hu hi e =
       let p = passed-one main local s r (omega arith) in
       let eu = no-wrap (uv s) (uv (tested main local s)) n (length main) (p .u) hu fits in

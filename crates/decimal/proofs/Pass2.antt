@@ -13,8 +13,8 @@ use lib.Seq.{set-getD, getD-set-same, getD-set-other}
 use Rattle.digits.specs.Bits.{one, bit}
 use Rattle.digits.specs.Digits.{bothDecimal, val}
 use Rattle.adder.specs.Adder.{arithmetic, sumOf, sixes, entering}
-use Rattle.adder.proofs.Laws.{Writes, decimal-sum, both-at-most}
-use Rattle.digits.proofs.Bits.{one-lt}
+use Rattle.adder.proofs.Laws.{Writes, decimal-sum, both-at-most, arithmetic-byte}
+use Rattle.digits.proofs.Bits.{one-lt, bit-with}
 use Rattle.machine.specs.Sources.{entered, sumIn}
 use Rattle.machine.specs.Branch.{nextOf}
 use Rattle.machine.specs.Storage.{accessOf}
@@ -25,10 +25,10 @@ use Rattle.machine.specs.declared.State.{State}
 use Rattle.machine.specs.declared.Cycled.the-variants as C
 use Rattle.run.proofs.Goes.{machine, Goes, here, next, join}
 use Rattle.decimal.specs.Value.{value}
-use Rattle.decimal.specs.Program.{shipped, fieldsAt}
+use Rattle.decimal.specs.Program.{shipped}
 use Rattle.decimal.proofs.Steps.{idle, stateAfter, Right, Leads, branch}
-use Rattle.decimal.proofs.Packed.{step}
-use Rattle.decimal.proofs.Pairs.{sum-lt, one-less, some-left, none-left, same, carry-byte, byte-carry, one-down, s0-kept, s3-is}
+use Rattle.decimal.proofs.Packed.{fieldsAt, step}
+use Rattle.decimal.proofs.Pairs.{one-less, some-left, none-left, same, carry-byte, byte-carry, moved, s0-kept}
 use Rattle.decimal.proofs.Pass1.{uv, ij, Ready}
 
 module _ (main local : List ℕ) (s : State) where
@@ -143,11 +143,11 @@ decimal-lt b d = omega (arith, both-at-most b d)
 module _ (main local : List ℕ) (s : State) (r : Ready s) where
   pub down-u : uv (after-0C main local s) ≡ (uv s + 65535) % 65536
   unfolding entered sumIn sumOf accessOf nextOf statusOf
-  down-u = simp s3-is (one-down (s .u) (s .v) (r .u) (r .v))
+  down-u = simp bit-with (moved (s .u) (s .v) 255 65535 false (r .u) (r .v) (omega arith) refl)
 
   pub down-i : ij (after-0F main local s) ≡ (ij s + 65535) % 65536
   unfolding entered sumIn sumOf accessOf nextOf statusOf
-  down-i = simp s3-is (one-down (s .i) (s .j) (r .i) (r .j))
+  down-i = simp bit-with (moved (s .i) (s .j) 255 65535 false (r .i) (r .j) (omega arith) refl)
 
   one-fewer : 1 ≤ s .t → added main local s .t + 1 ≡ s .t
   unfolding entered sumIn sumOf accessOf nextOf statusOf
@@ -164,7 +164,7 @@ module _ (main local : List ℕ) (s : State) (r : Ready s) where
 
     s3-in : bit (after-10 main local s .s) 3 ≡ c
     unfolding entered sumIn sumOf accessOf nextOf statusOf
-    s3-in = simp s3-is (rw h (byte-carry c))
+    s3-in = simp bit-with (rw h (byte-carry c))
 
     d-is : after-10 main local s .d ≡ second-byte main local s
     unfolding entered sumIn sumOf accessOf nextOf statusOf
@@ -180,7 +180,7 @@ module _ (main local : List ℕ) (s : State) (r : Ready s) where
 
     h-out : added main local s .h ≡ one carry-out
     unfolding entered sumIn sumOf accessOf nextOf statusOf
-    h-out = carry-byte (bit (after-12 main local s .s) 3) ∙ ap one (s3-is (after-10 main local s .s) carry-out)
+    h-out = carry-byte (bit (after-12 main local s .s) 3) ∙ ap one (bit-with (after-10 main local s .s) 3 carry-out)
 
     writes : Writes (sumIn (fieldsAt 0x11) (entered (fieldsAt 0x11) (after-10 main local s))) (val (first-byte main local s) + val (second-byte main local s) + one c)
     writes = rw is-sum the-sum
@@ -202,11 +202,11 @@ module _ (main local : List ℕ) (s : State) (r : Ready s) where
   unfolding entered sumIn sumOf accessOf nextOf statusOf
   ready-next =
       record {
-        u = sum-lt (s .u) 255 (bit (after-0A main local s .s) 3) (r .u) (omega arith);
-        v = sum-lt (s .v) 255 false (r .v) (omega arith);
-        i = sum-lt (s .i) 255 (bit (after-0E main local s .s) 3) (r .i) (omega arith);
-        j = sum-lt (s .j) 255 false (r .j) (omega arith);
-        t = sum-lt (s .t) 255 false (r .t) (omega arith);
+        u = arithmetic-byte false (s .u) 255 (one (bit (after-0A main local s .s) 3));
+        v = arithmetic-byte false (s .v) 255 0;
+        i = arithmetic-byte false (s .i) 255 (one (bit (after-0E main local s .s) 3));
+        j = arithmetic-byte false (s .j) 255 0;
+        t = arithmetic-byte false (s .t) 255 0;
         s0 = simp s0-kept (r .s0);
       }
 

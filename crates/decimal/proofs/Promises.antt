@@ -5,8 +5,9 @@ use mathlib.Core.List.{List, [], _∷_}
 use denote.Ref.{now}
 use Rattle.digits.specs.Refusal.{first}
 use Rattle.digits.proofs.Sole.{sole}
+use Rattle.machine.specs.Cycle.{outcome}
 use Rattle.machine.specs.declared.State.{State}
-use Rattle.decimal.specs.Entry.{addChecks, result}
+use Rattle.decimal.specs.Entry.{addChecks}
 use Rattle.decimal.specs.declared.Added.{Added}
 use Rattle.decimal.proofs.words.Reads as words
 use Rattle.decimal.proofs.start.Reads as start
@@ -20,7 +21,7 @@ words-sole κs args r q x y a b = sole a b
 pub start-sole : (κs : _) (args : _) (r q : State) (x y : _) → start.Post κs args r x → start.Post κs args q y → r ≡ q
 start-sole κs args r q x y a b = sole a b
 
-pub add-sole : (κs : _) (args : _) (r q : Added) (x y : _) → add.Post κs args r x → add.Post κs args q y → result r (now (x .0)) (now (x .1 .0)) ≡ result q (now (y .0)) (now (y .1 .0))
+pub add-sole : (κs : _) (args : _) (r q : Added) (x y : _) → add.Post κs args r x → add.Post κs args q y → outcome r (now (x .0)) (now (x .1 .0)) ≡ outcome q (now (y .0)) (now (y .1 .0))
 add-sole κs args r q x y a b = sole (a .0) (b .0)
 
 -- ---- "Length 16 accepted, 0 and 17 refused by 12. In a storage of 65,536 bytes a field whose last byte is at 65,535 is accepted; one place

@@ -14,7 +14,8 @@ use Rattle.word.proofs.Trips.{packed-apart}
 use Rattle.machine.specs.Sources.{entered, sumIn}
 use Rattle.machine.specs.Storage.{accessOf, outside, fetchedOf, mainAfter, localAfter}
 use Rattle.machine.specs.Modelled.{unmodelledOf}
-use Rattle.machine.specs.Cycle.{sizesWrong, stops, accessIn, after, ranOf, stepOf, cycleOf}
+use Rattle.digits.specs.Sizes.{sizesWrong}
+use Rattle.machine.specs.Cycle.{stops, accessIn, after, ranOf, stepOf, cycleOf}
 use Rattle.machine.specs.declared.State.{State}
 use Rattle.machine.specs.declared.Access.{Access}
 use Rattle.machine.specs.declared.Cycled.the-variants as C

@@ -2,13 +2,15 @@
 use Prim.Native.Nat.{ℕ, zero, suc, _+_, _*_, _%_, _<_, _≤_}
 use mathlib.Core.Path.{_≡_, refl, ap, subst, _∙_}
 use mathlib.Core.List.{List}
-use mathlib.Core.Bool.{Bool, true, false, cond, _&&_, not}
+use mathlib.Core.Bool.{Bool, true, false, cond, _&&_}
 use mathlib.Core.Logic.{_⊎_}
 use native.Mathlib.Omega.{arith}
 use lib.ListN.{length, getD}
 use Rattle.digits.specs.Bits.{one, bit}
 use Rattle.digits.specs.Digits.{bothDecimal}
+use Rattle.digits.proofs.Bits.{bit-with}
 use Rattle.adder.specs.Adder.{sumOf}
+use Rattle.adder.proofs.Laws.{arithmetic-byte}
 use Rattle.machine.specs.Sources.{entered, sumIn}
 use Rattle.machine.specs.Branch.{nextOf}
 use Rattle.machine.specs.Storage.{accessOf}
@@ -17,11 +19,11 @@ use Rattle.machine.specs.Modelled.{unmodelledOf}
 use Rattle.machine.specs.declared.State.{State}
 use Rattle.run.proofs.Goes.{machine, Goes, here, next, join}
 use Rattle.decimal.specs.Value.{decimalField}
-use Rattle.decimal.specs.Program.{shipped, fieldsAt}
+use Rattle.decimal.specs.Program.{shipped}
 use Rattle.decimal.specs.Promise.{untilBad}
 use Rattle.decimal.proofs.Steps.{idle, stateAfter, Right, Leads, Halts}
-use Rattle.decimal.proofs.Packed.{step, stop}
-use Rattle.decimal.proofs.Pairs.{same, sum-lt, carry-byte, byte-carry, s0-kept, s3-is}
+use Rattle.decimal.proofs.Packed.{fieldsAt, step, stop}
+use Rattle.decimal.proofs.Pairs.{same, carry-byte, byte-carry, s0-kept}
 use Rattle.decimal.proofs.Fields.{field-sound}
 use Rattle.decimal.proofs.Pass1 as P1
 use Rattle.decimal.proofs.Pass2 as P2
@@ -93,7 +95,7 @@ module _ (n a b : ℕ) (main local : List ℕ) (s : State) (c : Bool) (e : Entry
         v = e .v;
         i = e .i;
         j = e .j;
-        t = sum-lt (s .l) 0 false l-lt (omega arith);
+        t = arithmetic-byte false (s .l) 0 0;
         s0 = simp s0-kept (e .s0);
       }
 
@@ -125,37 +127,17 @@ module _ (n a b : ℕ) (main local : List ℕ) (s : State) (c : Bool) (e : Entry
     x-l : x .l ≡ n
     x-l = p .l ∙ begun-l
 
-    between-t : between main local x .t ≡ n
-    unfolding entered sumIn sumOf accessOf nextOf statusOf
-    between-t = same (x .l) (omega (arith, x-l, e .few)) ∙ x-l
-
-    between-h : between main local x .h ≡ one c
-    unfolding entered sumIn sumOf accessOf nextOf statusOf
-    between-h = p .h ∙ begun-h
-
-    between-i : P1.ij (between main local x) ≡ (a + n) % 65536
-    unfolding entered sumIn sumOf accessOf nextOf statusOf
-    between-i = p .i ∙ ap (λ (k : ℕ). (k + n) % 65536) begun-i
-
-    between-u : P1.uv (between main local x) ≡ (b + n) % 65536
-    unfolding entered sumIn sumOf accessOf nextOf statusOf
-    between-u = p .u ∙ ap (λ (k : ℕ). (k + n) % 65536) begun-u
-
-    between-ready : P1.Ready (between main local x)
-    unfolding entered sumIn sumOf accessOf nextOf statusOf
-    between-ready =
-        record { u = r .u; v = r .v; i = r .i; j = r .j; t = sum-lt (x .l) 0 false (omega (arith, x-l, e .few)) (omega arith); s0 = r .s0 }
-
     to-add : P2.ToAdd n a b main local (between main local x) c
+    unfolding entered sumIn sumOf accessOf nextOf statusOf
     to-add =
         record {
           right = e .right;
           fits = e .fits;
-          ready = between-ready;
-          h = between-h;
-          t = between-t;
-          i = between-i;
-          u = between-u;
+          ready = record { u = r .u; v = r .v; i = r .i; j = r .j; t = arithmetic-byte false (x .l) 0 0; s0 = r .s0 };
+          h = p .h ∙ begun-h;
+          t = same (x .l) (omega (arith, x-l, e .few)) ∙ x-l;
+          i = p .i ∙ ap (λ (k : ℕ). (k + n) % 65536) begun-i;
+          u = p .u ∙ ap (λ (k : ℕ). (k + n) % 65536) begun-u;
           in-a = e .in-a;
           in-b = e .in-b;
           clear = e .clear;
@@ -175,7 +157,7 @@ pub record Adds (n a b : ℕ) (main local : List ℕ) (s : State) (c : Bool) : T
 
 carry-out : (main local : List ℕ) (x : State) (k : Bool) → x .h ≡ one k → bit (summed main local x .s) 3 ≡ k
 unfolding entered sumIn sumOf accessOf nextOf statusOf
-carry-out main local x k h = simp s3-is (rw h (byte-carry k))
+carry-out main local x k h = simp bit-with (rw h (byte-carry k))
 
 -- where every digit is decimal
 pub adds : (n a b : ℕ) (main local : List ℕ) (s : State) (c : Bool) → Entry n a b main local s c → decimalField main a n ≡ true → decimalField main b n ≡ true

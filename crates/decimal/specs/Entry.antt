@@ -6,21 +6,22 @@ use lib.Dec.{eqb, ltb}
 use lib.ListN.{length}
 use Rattle.digits.specs.Bits.{bit, withBit}
 use Rattle.digits.specs.Refusal.{Check, first, answer}
-use Rattle.machine.specs.Cycle.{storageWrong}
+use Rattle.digits.specs.Sizes.{storageWrong}
+use Rattle.machine.specs.Cycle.{Outcome, outcome}
 use Rattle.machine.specs.declared.State.{State}
-use Rattle.run.specs.Run.{Ran, runOf}
+use Rattle.run.specs.Run.{runOf}
 use Rattle.run.specs.declared.Finished.{Finished}
 use Rattle.decimal.specs.Program.{shipped}
 use Rattle.decimal.specs.declared.Added.{Added}
 use Rattle.decimal.specs.declared.Added.the-variants.{Summed, BadDigit, Refused}
 
 -- 12: "decimal length not 1 to 16"
-abbrev pub lengthWrong : ℕ → Bool
-lengthWrong n = ltb n 1 || ltb 16 n
+abbrev pub decimalLengthWrong : ℕ → Bool
+decimalLengthWrong n = ltb n 1 || ltb 16 n
 
 -- 13: "a decimal field's start plus length over main storage's length"
-abbrev pub over : ℕ → ℕ → ℕ → Bool
-over main start n = ltb main (start + n)
+abbrev pub pastEnd : ℕ → ℕ → ℕ → Bool
+pastEnd main start n = ltb main (start + n)
 
 -- 14: "decimal fields overlap and do not start together"
 abbrev pub overlap : ℕ → ℕ → ℕ → Bool
@@ -29,7 +30,7 @@ overlap a b n = not (eqb a b) && (ltb a (b + n) && ltb b (a + n))
 -- "The decimal entry checks 1 (main and local), 12, 13, 14. One length serves both fields, a start is a field's lowest address"
 abbrev pub addChecks : ℕ → ℕ → ℕ → ℕ → ℕ → List Check
 addChecks main local a b n =
-    (1, storageWrong main local) ∷ (12, lengthWrong n) ∷ (13, over main a n || over main b n) ∷ (14, overlap a b n) ∷ []
+    (1, storageWrong main local) ∷ (12, decimalLengthWrong n) ∷ (13, pastEnd main a n || pastEnd main b n) ∷ (14, overlap a b n) ∷ []
 
 -- "from WX 0 with latches off, nothing arriving, main selected, and all registers zero but those that carry addresses, length and carry":
 -- the first field's start in I and J, the second's in U and V, the length in L, the carry in S3
@@ -64,27 +65,18 @@ abbrev pub bound : ℕ → ℕ
 bound n = 40 * n + 40
 
 -- "It then runs the shipped words"
-abbrev pub runFor : List ℕ → List ℕ → ℕ → ℕ → ℕ → Bool → Ran
+abbrev pub runFor : List ℕ → List ℕ → ℕ → ℕ → ℕ → Bool → Outcome Finished
 runFor main local a b n carry = runOf (bound n) shipped main local (start a b n carry)
 
--- an answer, and both storages as they then are
-pub record Result : Type 0 where
-  pub answer : Added
-  pub main : List ℕ
-  pub local : List ℕ
-
-abbrev pub result : Added → List ℕ → List ℕ → Result
-result answer main local = record { answer = answer; main = main; local = local }
-
 -- "it answers summed with the carry from S3, or bad digit, by the word it stopped at"
-abbrev pub answered : Finished → Added
-answered f = cond (eqb (f .state .wx) 0x14) (Summed (bit (f .state .s) 3) (f .count)) (BadDigit (f .count))
+abbrev pub answeredAt : Finished → Added
+answeredAt f = cond (eqb (f .state .wx) 0x14) (Summed (bit (f .state .s) 3) (f .count)) (BadDigit (f .count))
 
 -- "Its storage and cycle count are that run's"
-abbrev pub fromRun : Ran → Result
-fromRun r = result (answered (r .finished)) (r .main) (r .local)
+abbrev pub fromRun : Outcome Finished → Outcome Added
+fromRun r = outcome (answeredAt (r .answer)) (r .main) (r .local)
 
 -- the entry: refused, nothing is touched
-unfoldable pub addOf : List ℕ → List ℕ → ℕ → ℕ → ℕ → Bool → Result
+unfoldable pub addOf : List ℕ → List ℕ → ℕ → ℕ → ℕ → Bool → Outcome Added
 addOf main local a b n carry =
-    answer (first (addChecks (length main) (length local) a b n)) (λ (number : ℕ). result (Refused number) main local) (fromRun (runFor main local a b n carry))
+    answer (first (addChecks (length main) (length local) a b n)) (λ (number : ℕ). outcome (Refused number) main local) (fromRun (runFor main local a b n carry))

@@ -27,8 +27,8 @@ cyclesIn (BadDigit count) = count
 cyclesIn (Refused number) = 0
 
 -- both fields and the carry
-abbrev pub total : List ℕ → ℕ → ℕ → ℕ → Bool → ℕ
-total main a b n carry = value main a n + value main b n + one carry
+abbrev pub exactSum : List ℕ → ℕ → ℕ → ℕ → Bool → ℕ
+exactSum main a b n carry = value main a n + value main b n + one carry
 
 -- if every digit of both fields is 0 to 9
 pub record Sums (main local : List ℕ) (a b n : ℕ) (carry : Bool) (r : Added) (main′ local′ : List ℕ) : Type 0 where
@@ -36,8 +36,8 @@ pub record Sums (main local : List ℕ) (a b n : ℕ) (carry : Bool) (r : Added)
   -- summed, with the exact count
   pub summed : r ≡ Summed out (14 * n + 4)
   -- the first field's value afterwards is the sum modulo 100^n, and the carry is the quotient
-  pub remainder : value main′ a n ≡ total main a b n carry % 100 ^ n
-  pub quotient : one out ≡ total main a b n carry / 100 ^ n
+  pub remainder : value main′ a n ≡ exactSum main a b n carry % 100 ^ n
+  pub quotient : one out ≡ exactSum main a b n carry / 100 ^ n
   -- every digit of it is 0 to 9
   pub decimal : decimalField main′ a n ≡ true
   -- every other byte of main storage, and all of local storage, as before
@@ -73,6 +73,6 @@ pub record Promise (main local : List ℕ) (a b n : ℕ) (carry : Bool) (r : Add
   pub sums : Accepted main local a b n → bothFields main a b n ≡ true → Sums main local a b n carry r main′ local′
   pub bad : Accepted main local a b n → bothFields main a b n ≡ false → Bad main local a b n r main′ local′
   -- it stops in every case: budget spent cannot be the answer
-  pub stops : Accepted main local a b n → runFor main local a b n carry .finished .ending ≡ Stopped
+  pub stops : Accepted main local a b n → runFor main local a b n carry .answer .ending ≡ Stopped
   -- at most 40 cycles a byte and 40 more
   pub few : cyclesIn r ≤ bound n

@@ -3,8 +3,9 @@ ghost use mathlib.Core.Path.{_≡_};
 ghost use Prim.Native.Nat.{_+_, _-_, _<_, _≤_};
 ghost use lib.ListN.{length};
 ghost use Rattle.digits.specs.Refusal.{first};
+ghost use Rattle.machine.specs.Cycle.{outcome};
 ghost use Rattle.decimal.specs.Program.{shipped};
-ghost use Rattle.decimal.specs.Entry.{lengthWrong, over, overlap, addChecks, start, bound, result, answered, fromRun, runFor, addOf};
+ghost use Rattle.decimal.specs.Entry.{pastEnd, overlap, addChecks, start, answeredAt, fromRun, runFor, addOf};
 ghost use Rattle.decimal.specs.Promise.{Promise};
 use machine::State;
 use run::Finished;
@@ -49,8 +50,8 @@ pub fn words() -> [u64; 21]
 }
 
 // 13, of one field: on any numbers, so the sum is not formed.
-fn over(main: usize, start: usize, length: usize) -> bool
-    ensures { λ r. ⌜ r ≡ over main start length ⌝ }
+fn past_end(main: usize, start: usize, length: usize) -> bool
+    ensures { λ r. ⌜ r ≡ pastEnd main start length ⌝ }
 {
     if main < length {
         return true;
@@ -77,10 +78,10 @@ fn refusal(main: usize, local: usize, a: usize, b: usize, length: usize) -> u8
     ensures { λ r. ⌜ r ≡ first (addChecks main local a b length) ⌝ }
 {
     let fourteen = digits::first_of(overlap(a, b, length), 14, 0);
-    let outside = over(main, a, length) | over(main, b, length);
+    let outside = past_end(main, a, length) | past_end(main, b, length);
     let thirteen = digits::first_of(outside, 13, fourteen);
     let twelve = digits::first_of((length < 1) | (16 < length), 12, thirteen);
-    digits::first_of(machine::storage_wrong(main, local), 1, twelve)
+    digits::first_of(digits::storage_wrong(main, local), 1, twelve)
 }
 
 // The state in which the program begins.
@@ -113,8 +114,8 @@ pub fn start(a: u16, b: u16, length: u8, carry: bool) -> State
 }
 
 // By the word it stopped at.
-fn answered(f: Finished) -> Added
-    ensures { λ r. ⌜ r ≡ answered f ⌝ }
+fn answered_at(f: Finished) -> Added
+    ensures { λ r. ⌜ r ≡ answeredAt f ⌝ }
 {
     let count = f.count;
     if f.state.wx == 0x14 {
@@ -125,12 +126,12 @@ fn answered(f: Finished) -> Added
 
 fn run_words(main: &mut [u8], local: &mut [u8], a: u16, b: u16, length: u8, carry: bool) -> Added
     requires { ⌜ length ≤ 16 ⌝ }
-    ensures { λ r. ⌜ result r (now (main .exit)) (now (local .exit)) ≡ fromRun (runFor (now (main .entry)) (now (local .entry)) a b length carry) ⌝ }
+    ensures { λ r. ⌜ outcome r (now (main .exit)) (now (local .exit)) ≡ fromRun (runFor (now (main .entry)) (now (local .entry)) a b length carry) ⌝ }
 {
     let store = words();
     let budget = 40 * (length as u32) + 40;
     let finished = run::run(&store, main, local, start(a, b, length, carry), budget);
-    answered(finished)
+    answered_at(finished)
 }
 
 // The first field becomes the sum of both, with the carry. Storage and count are those of the run of the shipped words.
@@ -142,7 +143,7 @@ pub fn add(
     length: usize,
     carry: bool,
 ) -> Added
-    ensures run { λ r. ⌜ result r (now (main .exit)) (now (local .exit)) ≡ addOf (now (main .entry)) (now (local .entry)) first second length carry ⌝ }
+    ensures run { λ r. ⌜ outcome r (now (main .exit)) (now (local .exit)) ≡ addOf (now (main .entry)) (now (local .entry)) first second length carry ⌝ }
     ensures promise { λ r. ⌜ Promise (now (main .entry)) (now (local .entry)) first second length carry r (now (main .exit)) (now (local .exit)) ⌝ }
 {
     let number = refusal(main.len(), local.len(), first, second, length);

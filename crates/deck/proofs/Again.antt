@@ -2,7 +2,7 @@
 use Prim.Native.Nat.{ℕ, zero, suc, _+_, _-_, _*_, _^_, _<_, _≤_}
 use mathlib.Core.Path.{_≡_, refl, sym, ap, ap₂, _∙_}
 use mathlib.Core.List.{List, [], _∷_, _++_, map, append-nil}
-use mathlib.Core.Bool.{Bool, true, false, _&&_}
+use mathlib.Core.Bool.{true}
 use mathlib.Core.Logic.{_⊎_, inl, inr, ⊎-elim}
 use native.Mathlib.Nat.{mod-eq-of-lt}
 use native.Mathlib.Omega.{arith}
@@ -11,11 +11,13 @@ use lib.Dec.{eqb}
 use lib.ListN.{length, getD, take, drop, replicate, length-append, length-drop, take-append-drop, drop-of-length-le}
 use lib.Seq.{take-at, drop-at, take-all, take-suc, take-take, length-take-le}
 use Rattle.digits.specs.Line.{join}
+use Rattle.digits.specs.Table.{Each}
 use Rattle.digits.proofs.Lines.{join-parts}
 use Rattle.digits.proofs.Refusals.{None}
+use Rattle.digits.proofs.Table.{any}
+use Rattle.digits.proofs.Truth.{both}
 use Rattle.deck.specs.Lists.{joined, inTurn, allZero}
 use Rattle.deck.specs.Deck.{headWidths, countIn, wordsIn, unusedIn, headOf, sealed, blockOf, checkOf, checkIn, wordChecks, blockChecks}
-use Rattle.deck.proofs.Every.{Every, at-every}
 use Rattle.deck.proofs.Through.{Block}
 use Rattle.deck.proofs.Turns.{none-left, none-right, none-both}
 use Rattle.deck.proofs.Blocks.{Good, good, some, full}
@@ -23,10 +25,6 @@ use Rattle.deck.proofs.Decks.{length-words}
 use Rattle.deck.proofs.Written.{check-before, made}
 
 -- ---- a block that is not refused is the block of its words
-
-both : (a b : Bool) → a && b ≡ true → (a ≡ true) × (b ≡ true)
-both true b h = (refl, h)
-both false b h = absurd (let z : _≡_ {A = ℕ} 0 1 = cc in omega arith)
 
 zeros-are : (l : List ℕ) → allZero l ≡ true → l ≡ replicate (length l) 0
 zeros-are [] e = refl
@@ -55,7 +53,7 @@ block-again n b gs (e, bits) g =
     let s = g .shape in
     let h = some (eqb (b + 1) n) (countIn gs) (s .count) .1 in
     let l = length-words gs e h in
-    let small : getD gs 0 0 < 2 ^ 64 = at-every _ 0 gs (omega arith) bits 0 in
+    let small : getD gs 0 0 < 2 ^ 64 = any _ gs 0 bits (omega arith) 0 in
     let head : headOf b (length (wordsIn gs)) ≡ getD gs 0 0 =
     ap (headOf b) l ∙ ap₂ (λ (m r : ℕ). join headWidths (m ∷ countIn gs ∷ r ∷ [])) (sym (g .number)) (sym (s .reserved)) ∙ join-parts headWidths (getD gs 0 0) ∙ mod-eq-of-lt small in
     let f : headOf b (length (wordsIn gs)) ∷ (wordsIn gs ++ replicate (62 - length (wordsIn gs)) 0) ≡ take 63 gs = rw (head, l) (sym (front-is gs e h (s .unused))) in
@@ -90,7 +88,7 @@ nothing-or-more : (n : ℕ) → (n ≡ 0) ⊎ (0 < n)
 nothing-or-more zero = inl refl
 nothing-or-more (suc n) = inr (omega arith)
 
-pub again : (b all : ℕ) (bs : List (List ℕ)) → Every Block bs → b + length bs ≡ all → all ≤ 67 → None (inTurn (blockChecks all) b bs) → Again b bs
+pub again : (b all : ℕ) (bs : List (List ℕ)) → Each Block bs → b + length bs ≡ all → all ≤ 67 → None (inTurn (blockChecks all) b bs) → Again b bs
 again b all [] p e m h = record { same = refl; least = omega arith; most = omega arith; total = omega arith; none = tt }
 again b all (gs ∷ bs) p e m h = turn (again (suc b) all bs (p .1) (omega arith) m (none-right (blockChecks all b gs) _ h)) (good all b gs (none-left (blockChecks all b gs) _ h))
   where

@@ -10,13 +10,13 @@ use lib.ListN.{length, take}
 use lib.Seq.{take-at}
 use Rattle.digits.specs.Refusal.{first, answer}
 use Rattle.digits.proofs.Refusals.{None, refuses, first-none, none-first, given-none}
+use Rattle.digits.proofs.Truth.{zero-one, neither}
 use Rattle.deck.specs.Lists.{inTurn, over}
 use Rattle.deck.specs.Deck.{lengthWrong, wordChecks, deckChecks, blocksOf, wordsOf, readChecks, readOf, wordsAfter, blockCount, deckOf, wordsWrong, writeChecks, writeOf, deckAfter}
 use Rattle.deck.specs.declared.Reading.the-variants as R
 use Rattle.deck.specs.declared.Writing.the-variants as W
 use Rattle.deck.proofs.Turns.{first-append, none-left, none-right}
 use Rattle.deck.proofs.Checks.{words-numbered, blocks-numbered, read-numbered, write-numbered}
-use Rattle.deck.proofs.Blocks.{neither}
 
 -- ---- what a right length is, of a deck and of the words to write
 
@@ -132,7 +132,7 @@ pub record Read (deck : List ℕ) (room n : ℕ) : Type 0 where
 pub was-read : (deck : List ℕ) (room n : ℕ) → readOf deck room ≡ R.Words n → Read deck room n
 unfolding readOf readChecks
 was-read deck room n e =
-    let (none, same) = given-none R.Refused (R.Words (length (wordsOf deck))) (R.Words n) (λ m r. let z : _≡_ {A = ℕ} 0 1 = cc in omega arith) (readChecks deck room) (read-numbered deck room) e in
+    let (none, same) = given-none R.Refused (R.Words (length (wordsOf deck))) (R.Words n) (λ m r. zero-one cc) (readChecks deck room) (read-numbered deck room) e in
     record {
       checks = none-first (readChecks deck room) none;
       length-right = none .0;
@@ -154,7 +154,7 @@ pub record Wrote (ws : List ℕ) (room n : ℕ) : Type 0 where
 pub wrote : (ws : List ℕ) (room n : ℕ) → writeOf ws room ≡ W.Bytes n → Wrote ws room n
 unfolding writeOf writeChecks
 wrote ws room n e =
-    let (none, same) = given-none W.Refused (W.Bytes (512 * blockCount (length ws))) (W.Bytes n) (λ m r. let z : _≡_ {A = ℕ} 0 1 = cc in omega arith) (writeChecks ws room) (write-numbered ws room) e in
+    let (none, same) = given-none W.Refused (W.Bytes (512 * blockCount (length ws))) (W.Bytes n) (λ m r. zero-one cc) (writeChecks ws room) (write-numbered ws room) e in
     record {
       checks = none-first (writeChecks ws room) none;
       length-right = none .0;

@@ -8,10 +8,11 @@ use borrow.Author.Tests.{eqb-true, eqb-false, eq-eqb, ne-eqb, le-ltb}
 use lib.Dec.{eqb}
 use lib.ListN.{length, take, drop, replicate, length-take, length-drop, take-append-drop}
 use lib.Seq.{take-at, drop-at, getD-at}
+use Rattle.digits.specs.Table.{Each}
 use Rattle.digits.proofs.Refusals.{None}
+use Rattle.digits.proofs.Table.{Below, each-append, each-same, each-take, each-drop}
 use Rattle.deck.specs.Lists.{joined, inTurn, allZero}
 use Rattle.deck.specs.Deck.{numberIn, countIn, reservedIn, wordsIn, unusedIn, checkOf, checkIn, countWrong, headOf, wordChecks, blockChecks, blockOf}
-use Rattle.deck.proofs.Every.{Every, Below, every-append, every-same, every-take, every-drop}
 use Rattle.deck.proofs.Through.{Block}
 use Rattle.deck.proofs.Turns.{none-append, none-take, none-drop}
 use Rattle.deck.proofs.Blocks.{Good, none}
@@ -72,7 +73,7 @@ module _ (b : ℕ) (ws : List ℕ) (few : b < 67) (fits : length ws ≤ 62) wher
     length-block b ws fits,
     (
       omega arith,
-      every-append _ (ws ++ replicate (62 - length ws) 0) _ (every-append _ ws _ p (every-same _ (62 - length ws) 0 (omega arith))) (check-lt _, tt),
+      each-append _ (ws ++ replicate (62 - length ws) 0) _ (each-append _ ws _ p (each-same _ (62 - length ws) 0 (omega arith))) (check-lt _, tt),
     ),
   )
 
@@ -87,7 +88,7 @@ right-count false count p q = rw (eq-eqb count 62 (q refl))
 pub record Holds (n b all : ℕ) (ws : List ℕ) : Type 0 where
   pub words : joined (map wordsIn (made n b ws)) ≡ ws
   pub none : None (inTurn (blockChecks all) b (made n b ws))
-  pub blocks : Every Block (made n b ws)
+  pub blocks : Each Block (made n b ws)
 
 -- n blocks are as many as the words need
 pub record Enough (n b all : ℕ) (ws : List ℕ) : Type 0 where
@@ -126,9 +127,9 @@ holds (suc n) b all ws e w p =
     let d = length-drop 62 ws in
     let next : Enough n (suc b) all (drop 62 ws) = record { places = omega arith; few = e .few; most = omega arith; least = omega arith; total = omega arith } in
     let a : 62 * b + 62 ≡ 62 * suc b = omega arith in
-    let rest : Holds n (suc b) all (drop 62 ws) = holds n (suc b) all (drop 62 ws) next (rw a at (none-drop wordChecks ws (62 * b) 62 w)) (every-drop _ 62 ws p) in
+    let rest : Holds n (suc b) all (drop 62 ws) = holds n (suc b) all (drop 62 ws) next (rw a at (none-drop wordChecks ws (62 * b) 62 w)) (each-drop _ 62 ws p) in
     record {
       words = rw (words-of b (take 62 ws) few fits, rest .words) (take-append-drop 62 ws);
       none = none-append (blockChecks all b (blockOf b (take 62 ws))) (inTurn (blockChecks all) (suc b) (made n (suc b) (drop 62 ws))) (none all b (blockOf b (take 62 ws)) (first-block n b all ws e w)) (rest .none);
-      blocks = (block b (take 62 ws) few fits (every-take _ 62 ws p), rest .blocks);
+      blocks = (block b (take 62 ws) few fits (each-take _ 62 ws p), rest .blocks);
     }

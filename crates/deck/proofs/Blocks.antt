@@ -1,19 +1,16 @@
 -- The refusals of a block, test by test, and what a block without one is. Assumes nothing.
 use Prim.Native.Nat.{ℕ, _+_, _*_, _≤_}
-use mathlib.Core.Path.{_≡_, refl}
+use mathlib.Core.Path.{_≡_}
 use mathlib.Core.List.{List}
-use mathlib.Core.Bool.{Bool, true, false, not, _||_}
+use mathlib.Core.Bool.{Bool, true, false, not}
 use native.Mathlib.Omega.{arith}
 use borrow.Author.Tests.{eq-eqb, ne-eqb, eqb-true, eqb-false, ltb-false, le-ltb, not-false}
 use lib.Dec.{eqb, ltb}
 use Rattle.digits.specs.Refusal.{first}
 use Rattle.digits.proofs.Refusals.{None}
+use Rattle.digits.proofs.Truth.{neither}
 use Rattle.deck.specs.Lists.{inTurn, allZero}
 use Rattle.deck.specs.Deck.{numberIn, countIn, reservedIn, wordsIn, unusedIn, checkOf, checkIn, countWrong, totalWrong, unusedWrong, shapeWrong, wordChecks, blockChecks}
-
-pub neither : (a b : Bool) → a || b ≡ false → (a ≡ false) × (b ≡ false)
-neither true b h = let z : _≡_ {A = ℕ} 0 1 = cc in absurd (omega arith)
-neither false b h = (refl, h)
 
 -- what a right count is
 pub some : (last : Bool) (count : ℕ) → countWrong last count ≡ false → (1 ≤ count) × (count ≤ 62)

@@ -1,4 +1,3 @@
-pub mod Every
 pub mod Lists
 pub mod Number
 pub mod Turns

@@ -10,7 +10,7 @@ use lib.ListN.{length, replicate, length-append, length-replicate}
 use Rattle.digits.specs.Line.{total, parts, join}
 use Rattle.digits.proofs.Lines.{Fit, join-parts, join-lt, parts-join}
 use Rattle.deck.specs.Number.{digitsOf, numberOf}
-use Rattle.deck.proofs.Every.{Below}
+use Rattle.digits.proofs.Table.{Below}
 
 below-fit : (w : ℕ) (ds : List ℕ) → Below (2 ^ w) ds → Fit (replicate (length ds) w) ds
 below-fit w [] h = tt

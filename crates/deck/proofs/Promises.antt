@@ -9,6 +9,7 @@ use denote.Ref.{now}
 use Rattle.digits.specs.Refusal.{first, Given}
 use Rattle.digits.proofs.Refusals.{exactly}
 use Rattle.digits.proofs.Sole.{sole}
+use Rattle.digits.proofs.Truth.{zero-one}
 use Rattle.deck.specs.Lists.{pieces, over}
 use Rattle.deck.specs.Deck.{countIn, checkOf, blockOf, blocksFor, readChecks, readOf, wordsAfter, wordsOf, blockCount, deckOf, writeChecks, writeOf, deckAfter}
 use Rattle.deck.specs.declared.Reading.{Reading}
@@ -27,24 +28,24 @@ use Rattle.deck.proofs.write.Reads as write
 pub read-exactly : (deck : List ℕ) (room n : ℕ) → (readOf deck room ≡ R.Refused n) ↔ Given n (readChecks deck room)
 unfolding readOf
 read-exactly deck room =
-    exactly R.Refused (R.Words (length (wordsOf deck))) (λ m n e. cc) (λ n e. let z : _≡_ {A = ℕ} 0 1 = cc in omega arith) (readChecks deck room) (read-numbered deck room)
+    exactly R.Refused (R.Words (length (wordsOf deck))) (λ m n e. cc) (λ n e. zero-one cc) (readChecks deck room) (read-numbered deck room)
 
 -- 21, then 3 to 9, then 19, of `write`
 pub write-exactly : (ws : List ℕ) (room n : ℕ) → (writeOf ws room ≡ W.Refused n) ↔ Given n (writeChecks ws room)
 unfolding writeOf
 write-exactly ws room =
-    exactly W.Refused (W.Bytes (512 * blockCount (length ws))) (λ m n e. cc) (λ n e. let z : _≡_ {A = ℕ} 0 1 = cc in omega arith) (writeChecks ws room) (write-numbered ws room)
+    exactly W.Refused (W.Bytes (512 * blockCount (length ws))) (λ m n e. cc) (λ n e. zero-one cc) (writeChecks ws room) (write-numbered ws room)
 
 -- "refused, it writes nothing"
 pub read-nothing : (deck words : List ℕ) (n : ℕ) → readOf deck (length words) ≡ R.Refused n → wordsAfter deck words ≡ words
 unfolding readOf wordsAfter
 read-nothing deck words =
-    same-refusal R.Refused (R.Words (length (wordsOf deck))) (λ m n e. cc) (λ n e. let z : _≡_ {A = ℕ} 0 1 = cc in omega arith) (λ n. words) (over (wordsOf deck) words) (first (readChecks deck (length words)))
+    same-refusal R.Refused (R.Words (length (wordsOf deck))) (λ m n e. cc) (λ n e. zero-one cc) (λ n. words) (over (wordsOf deck) words) (first (readChecks deck (length words)))
 
 pub write-nothing : (ws deck : List ℕ) (n : ℕ) → writeOf ws (length deck) ≡ W.Refused n → deckAfter ws deck ≡ deck
 unfolding writeOf deckAfter
 write-nothing ws deck =
-    same-refusal W.Refused (W.Bytes (512 * blockCount (length ws))) (λ m n e. cc) (λ n e. let z : _≡_ {A = ℕ} 0 1 = cc in omega arith) (λ n. deck) (over (deckOf ws) deck) (first (writeChecks ws (length deck)))
+    same-refusal W.Refused (W.Bytes (512 * blockCount (length ws))) (λ m n e. cc) (λ n e. zero-one cc) (λ n. deck) (over (deckOf ws) deck) (first (writeChecks ws (length deck)))
 
 -- "4,096 words make 67 blocks, the last with 4."
 pub full-store : (ws : List ℕ) → length ws ≡ 4096 → (length (blocksFor ws) ≡ 67) × (countIn (getD (blocksFor ws) 66 []) ≡ 4)

@@ -9,18 +9,19 @@ use lib.Seq.{take-at, drop-at, length-take-le}
 use Rattle.deck.specs.Lists.{pieces, joined}
 use Rattle.deck.specs.Number.{digitsOf, numberOf}
 use Rattle.deck.specs.Deck.{groupsOf, bytesOf}
-use Rattle.deck.proofs.Every.{Every, Below, every-take, every-drop}
+use Rattle.digits.specs.Table.{Each}
+use Rattle.digits.proofs.Table.{Below, each-take, each-drop}
 use Rattle.deck.proofs.Number.{length-digits, number-digits, digits-number, number-lt}
 use Rattle.deck.proofs.Groups.{length-groups, length-bytes}
 
 -- what holds of every piece
-pub every-piece : {A : Type 0} (P : A → Type 0) (f : List ℕ → A) (k m : ℕ) → ((p : List ℕ) → length p ≡ k → Below m p → P (f p))
-    → (n : ℕ) (l : List ℕ) → length l ≡ n * k → Below m l → Every P (map f (pieces k n l))
-every-piece P f k m h zero l e p = tt
-every-piece P f k m h (suc n) l e p =
+pub each-piece : {A : Type 0} (P : A → Type 0) (f : List ℕ → A) (k m : ℕ) → ((p : List ℕ) → length p ≡ k → Below m p → P (f p))
+    → (n : ℕ) (l : List ℕ) → length l ≡ n * k → Below m l → Each P (map f (pieces k n l))
+each-piece P f k m h zero l e p = tt
+each-piece P f k m h (suc n) l e p =
     let s = suc-mul n k in (
-      h (take k l) (length-take-le k l (omega arith)) (every-take _ k l p),
-      every-piece P f k m h n (drop k l) (length-drop k l ∙ omega arith) (every-drop _ k l p),
+      h (take k l) (length-take-le k l (omega arith)) (each-take _ k l p),
+      each-piece P f k m h n (drop k l) (length-drop k l ∙ omega arith) (each-drop _ k l p),
     )
 
 module _ {A : Type 0} (spell : A → List ℕ) (read : List ℕ → A) (k : ℕ) where
@@ -28,7 +29,7 @@ module _ {A : Type 0} (spell : A → List ℕ) (read : List ℕ → A) (k : ℕ)
   abbrev pub Kept : A → Type 0
   Kept x = (length (spell x) ≡ k) × (read (spell x) ≡ x)
 
-  pub there : (l : List A) → Every Kept l → map read (pieces k (length l) (joined (map spell l))) ≡ l
+  pub there : (l : List A) → Each Kept l → map read (pieces k (length l) (joined (map spell l))) ≡ l
   there [] p = refl
   there (x ∷ l) p =
       let rest = joined (map spell l) in
@@ -41,13 +42,13 @@ module _ {A : Type 0} (spell : A → List ℕ) (read : List ℕ → A) (k : ℕ)
   back m same (suc n) l e p =
       let s = suc-mul n k in
       rw (
-        same (take k l) (length-take-le k l (omega arith)) (every-take _ k l p),
-        back m same n (drop k l) (length-drop k l ∙ omega arith) (every-drop _ k l p),
+        same (take k l) (length-take-le k l (omega arith)) (each-take _ k l p),
+        back m same n (drop k l) (length-drop k l ∙ omega arith) (each-drop _ k l p),
       ) (take-append-drop k l)
 
 -- ---- a block's groups through its bytes
 
-kept-group : (gs : List ℕ) → Below (2 ^ 64) gs → Every (Kept (digitsOf 8 8) (numberOf 8) 8) gs
+kept-group : (gs : List ℕ) → Below (2 ^ 64) gs → Each (Kept (digitsOf 8 8) (numberOf 8) 8) gs
 kept-group [] p = tt
 kept-group (g ∷ gs) p = ((length-digits 8 8 g, number-digits 8 8 g (p .0)), kept-group gs (p .1))
 
@@ -65,21 +66,21 @@ bytes-groups block e p = back (digitsOf 8 8) (numberOf 8) 8 256 (digits-number 8
 abbrev pub Block : List ℕ → Type 0
 Block gs = (length gs ≡ 64) × Below (2 ^ 64) gs
 
-kept-block : (bs : List (List ℕ)) → Every Block bs → Every (Kept bytesOf groupsOf 512) bs
+kept-block : (bs : List (List ℕ)) → Each Block bs → Each (Kept bytesOf groupsOf 512) bs
 kept-block [] p = tt
 kept-block (gs ∷ bs) p =
     let l = p .0 .0 in
     ((length-bytes gs ∙ omega arith, groups-bytes gs l (p .0 .1)), kept-block bs (p .1))
 
-pub blocks-bytes : (bs : List (List ℕ)) → Every Block bs → map groupsOf (pieces 512 (length bs) (joined (map bytesOf bs))) ≡ bs
+pub blocks-bytes : (bs : List (List ℕ)) → Each Block bs → map groupsOf (pieces 512 (length bs) (joined (map bytesOf bs))) ≡ bs
 blocks-bytes bs p = there bytesOf groupsOf 512 bs (kept-block bs p)
 
 pub groups-block : (block : List ℕ) → length block ≡ 512 → Below 256 block → Block (groupsOf block)
 unfolding groupsOf
-groups-block block e p = (length-groups block, every-piece (λ (g : ℕ). g < 2 ^ 64) (numberOf 8) 8 256 (number-lt 8 8) 64 block e p)
+groups-block block e p = (length-groups block, each-piece (λ (g : ℕ). g < 2 ^ 64) (numberOf 8) 8 256 (number-lt 8 8) 64 block e p)
 
-pub blocks-are : (n : ℕ) (deck : List ℕ) → length deck ≡ n * 512 → Below 256 deck → Every Block (map groupsOf (pieces 512 n deck))
-blocks-are = every-piece Block groupsOf 512 256 groups-block
+pub blocks-are : (n : ℕ) (deck : List ℕ) → length deck ≡ n * 512 → Below 256 deck → Each Block (map groupsOf (pieces 512 n deck))
+blocks-are = each-piece Block groupsOf 512 256 groups-block
 
 pub bytes-blocks : (n : ℕ) (deck : List ℕ) → length deck ≡ n * 512 → Below 256 deck → joined (map bytesOf (map groupsOf (pieces 512 n deck))) ≡ deck
 bytes-blocks = back bytesOf groupsOf 512 256 bytes-groups

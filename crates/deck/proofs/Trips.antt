@@ -13,7 +13,8 @@ use Rattle.deck.specs.Lists.{pieces, inTurn, joined, over}
 use Rattle.deck.specs.Deck.{groupsOf, blocksOf, bytesOf, wordsIn, wordsOf, wordChecks, deckChecks, readChecks, readOf, wordsAfter, blockCount, blocksFor, deckOf, writeChecks, writeOf, deckAfter}
 use Rattle.deck.specs.declared.Reading.the-variants as R
 use Rattle.deck.specs.declared.Writing.the-variants as W
-use Rattle.deck.proofs.Every.{Every, Below, every-at}
+use Rattle.digits.specs.Table.{Each}
+use Rattle.digits.proofs.Table.{Below, each}
 use Rattle.deck.proofs.Turns.{none-left, none-right}
 use Rattle.deck.proofs.Groups.{length-blocks}
 use Rattle.deck.proofs.Answers.{Sized, sized, right-length, right-words, few, read-0, accepted, write-0, write-accepted, Read, was-read, taken, Wrote, wrote}
@@ -95,7 +96,7 @@ module _ {deck : List ℕ} {room₀ n₀ : ℕ} (bytes : Below 256 deck) (r : Re
   pieced : length deck ≡ length deck / 512 * 512
   pieced = let s = size .whole in omega arith
 
-  every-block : Every Block (blocksOf deck)
+  every-block : Each Block (blocksOf deck)
   unfolding blocksOf
   every-block = blocks-are (length deck / 512) deck pieced bytes
 
@@ -145,7 +146,7 @@ module _ {deck : List ℕ} {room₀ n₀ : ℕ} (bytes : Below 256 deck) (r : Re
 pub few-words : (deck words : List ℕ) (n : ℕ) → ((i : ℕ) → getD deck i 0 < 256) → readOf deck (length words) ≡ R.Words n → n ≤ 4096
 few-words deck words n bytes e =
     let r = was-read deck (length words) n e in
-    let below = every-at (λ (x : ℕ). x < 256) 0 deck bytes in
+    let below = each (λ (x : ℕ). x < 256) deck 0 bytes in
     omega (arith, same below r .total, ap length (words-are below r), r .count)
 
 -- where `read` gives the number of words, `write` of those words gives the same deck
@@ -153,7 +154,7 @@ pub read-written : (deck words out : List ℕ) (n : ℕ) → ((i : ℕ) → getD
     → (writeOf (take n (wordsAfter deck words)) (length out) ≡ W.Bytes (length deck)) × (deckAfter (take n (wordsAfter deck words)) out ≡ over deck out)
 read-written deck words out n bytes e room =
     let r = was-read deck (length words) n e in
-    let below = every-at (λ (x : ℕ). x < 256) 0 deck bytes in
+    let below = each (λ (x : ℕ). x < 256) deck 0 bytes in
     let again = deck-again below r in
     let w = write-accepted (wordsOf deck) out (write-again below r (length out) room) in
     let x : W.Bytes (length deck) ≡ writeOf (wordsOf deck) (length out) = rw (size-again below r) at (w .0) in

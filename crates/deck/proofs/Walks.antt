@@ -8,17 +8,18 @@ use native.Mathlib.Omega.{arith}
 use borrow.Author.Tests.{ne-eqb}
 use lib.ListN.{length, getD, take, drop, set, length-append, length-drop, length-set, drop-of-length-le}
 use lib.Seq.{drop-cons, drop-drop, take-append-seam, drop-append-seam, getD-set-same, drop-set-lt}
-use Rattle.deck.specs.Lists.{sumOf, allZero, over}
+use Rattle.digits.specs.Line.{total}
+use Rattle.deck.specs.Lists.{allZero, over}
 
 -- ---- a sum that wraps
 
 wrap : (s g t : ℕ) → ((s + g) % 2 ^ 64 + t) % 2 ^ 64 ≡ (s + (g + t)) % 2 ^ 64
 wrap s g t = omega arith
 
-pub sum-step : (l : List ℕ) (i s : ℕ) → i < length l → ((s + getD l i 0) % 2 ^ 64 + sumOf (drop (i + 1) l)) % 2 ^ 64 ≡ (s + sumOf (drop i l)) % 2 ^ 64
-sum-step l i s h = rw (drop-cons l i 0 h, add-one) (wrap s (getD l i 0) (sumOf (drop (suc i) l)))
+pub sum-step : (l : List ℕ) (i s : ℕ) → i < length l → ((s + getD l i 0) % 2 ^ 64 + total (drop (i + 1) l)) % 2 ^ 64 ≡ (s + total (drop i l)) % 2 ^ 64
+sum-step l i s h = rw (drop-cons l i 0 h, add-one) (wrap s (getD l i 0) (total (drop (suc i) l)))
 
-pub sum-end : (l : List ℕ) (i s : ℕ) → length l ≤ i → s < 2 ^ 64 → (s + sumOf (drop i l)) % 2 ^ 64 ≡ s
+pub sum-end : (l : List ℕ) (i s : ℕ) → length l ≤ i → s < 2 ^ 64 → (s + total (drop i l)) % 2 ^ 64 ≡ s
 sum-end l i s h k = rw (drop-of-length-le l h) (omega arith)
 
 -- ---- a search for what is not zero

@@ -7,7 +7,8 @@ use native.Mathlib.Omega.{arith}
 use lib.Pow.{pow-pos}
 use lib.ListN.{length, take, drop, set, replicate, length-append, length-replicate, length-take}
 use lib.Seq.{set-at, take-at, take-all}
-use Rattle.deck.specs.Lists.{pieces, joined, placed, sumOf}
+use Rattle.digits.specs.Line.{total}
+use Rattle.deck.specs.Lists.{pieces, joined, placed}
 use Rattle.deck.specs.Deck.{bytesOf, checkOf, blockOf, blockCount, blocksFor, deckOf}
 use Rattle.deck.proofs.Lists.{length-pieces, pieces-at, placed-step, placed-end}
 use Rattle.deck.proofs.Groups.{length-bytes}
@@ -27,7 +28,7 @@ check-before gs rest e = rw (take-at gs rest 63 e, take-all 63 gs (omega arith))
 
 pub check-lt : (gs : List ℕ) → checkOf gs < 2 ^ 64
 unfolding checkOf
-check-lt gs = mod-lt (sumOf (take 63 gs)) (pow-pos 64)
+check-lt gs = mod-lt (total (take 63 gs)) (pow-pos 64)
 
 pub seal-in : (h : ℕ) (ys : List ℕ) (s : ℕ) → length ys ≡ 62 → set (h ∷ (ys ++ (0 ∷ []))) 63 s ≡ (h ∷ ys) ++ (s ∷ [])
 seal-in h ys s e = set-at (h ∷ ys) 0 [] s 63 (ap suc e)

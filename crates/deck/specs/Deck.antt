@@ -4,11 +4,11 @@ use mathlib.Core.List.{List, [], _∷_, _++_, map}
 use mathlib.Core.Bool.{Bool, not, cond, _||_}
 use lib.ListN.{length, getD, take, drop, replicate}
 use lib.Dec.{eqb, ltb}
-use Rattle.digits.specs.Line.{parts, join}
+use Rattle.digits.specs.Line.{total, parts, join}
 use Rattle.digits.specs.Refusal.{Check, first, answer}
 use Rattle.word.specs.Layout.{lineOf}
 use Rattle.word.specs.Word.{faultChecks}
-use Rattle.deck.specs.Lists.{pieces, joined, placed, inTurn, sumOf, allZero, over}
+use Rattle.deck.specs.Lists.{pieces, joined, placed, inTurn, allZero, over}
 use Rattle.deck.specs.Number.{digitsOf, numberOf}
 use Rattle.deck.specs.declared.Reading.{Reading}
 use Rattle.deck.specs.declared.Reading.the-variants as R
@@ -54,7 +54,7 @@ unusedIn gs = drop (1 + countIn gs) (take 63 gs)
 
 -- "Group 63: the sum of groups 0 to 62, wrapping at 64 bits."
 unfoldable pub checkOf : List ℕ → ℕ
-checkOf gs = sumOf (take 63 gs) % 2 ^ 64
+checkOf gs = total (take 63 gs) % 2 ^ 64
 
 abbrev pub checkIn : List ℕ → ℕ
 checkIn gs = getD gs 63 0

@@ -25,10 +25,6 @@ placed f i (x ∷ xs) = f i x ∷ placed f (suc i) xs
 abbrev pub inTurn : {A : Type 0} → (ℕ → A → List Check) → ℕ → List A → List Check
 inTurn checks i l = joined (placed checks i l)
 
-abbrev pub sumOf : List ℕ → ℕ
-sumOf [] = 0
-sumOf (x ∷ xs) = x + sumOf xs
-
 abbrev pub allZero : List ℕ → Bool
 allZero [] = true
 allZero (x ∷ xs) = eqb x 0 && allZero xs

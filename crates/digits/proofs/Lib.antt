@@ -1,6 +1,8 @@
+pub mod Truth
 pub mod Bits
 pub mod Lines
-pub mod Refusals
 pub mod Table
+pub mod Refusals
+pub mod Sizes
 pub mod Sole
 pub mod Promises

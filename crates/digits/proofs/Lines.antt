@@ -2,16 +2,16 @@
 use Prim.Native.Nat.{ℕ, _+_, _-_, _*_, _/_, _%_, _^_, _<_}
 use mathlib.Core.Path.{_≡_, refl, sym, ap, ap₂, _∙_, subst}
 use mathlib.Core.List.{List, [], _∷_}
-use mathlib.Core.Bool.{Bool, true, false, cond, _&&_}
+use mathlib.Core.Bool.{Bool, true, false, cond}
 use lib.Dec.{ltb}
 use borrow.Author.Tests.{ltb-true, lt-ltb}
 use native.Mathlib.Nat.{mod-lt, mod-one, mod-eq-of-lt, add-assoc, zero-add, lt-of-le-of-lt, zero-lt-suc}
-use native.Mathlib.Omega.{arith}
 use lib.Arith.{digits-lt}
 use lib.Pow.{pow-pos, pow-add, split, high, low, mod-pow-add, field, mod-mod-pow, ones-lt}
 use lib.Bits.{bitAnd, and-block, and-mask, and-zero-r, and-le-l}
 use lib.Count.{ones, ones-cat}
-use Rattle.digits.specs.Line.{total, slot, parts, join, fit, filled, mask, chosen, onesOf}
+use Rattle.digits.specs.Line.{total, slot, parts, join, fit, onesOf}
+use Rattle.digits.proofs.Truth.{zero-one, both}
 
 -- each value fits its width, and there are as many values as widths
 abbrev pub Fit : List ℕ → List ℕ → Type 0
@@ -64,21 +64,14 @@ pub parts-fit : (ks : List ℕ) (n : ℕ) → Fit ks (parts ks n)
 parts-fit [] n = tt
 parts-fit (k ∷ ks) n = (mod-lt (n / 2 ^ total ks) (pow-pos k), parts-fit ks n)
 
-and-left : (a b : Bool) → a && b ≡ true → a ≡ true
-and-left true b h = refl
-and-left false b h = h
-
-and-right : (a b : Bool) → a && b ≡ true → b ≡ true
-and-right true b h = h
-and-right false b h = absurd (let z : _≡_ {A = ℕ} 0 1 = cc in omega arith)
-
 -- the test, as the fact, and the fact as the test
 pub fit-true : (ks vs : List ℕ) → fit ks vs ≡ true → Fit ks vs
 fit-true [] [] h = tt
-fit-true [] (v ∷ vs) h = let z : _≡_ {A = ℕ} 0 1 = cc in omega arith
-fit-true (k ∷ ks) [] h = let z : _≡_ {A = ℕ} 0 1 = cc in omega arith
+fit-true [] (v ∷ vs) h = zero-one cc
+fit-true (k ∷ ks) [] h = zero-one cc
 fit-true (k ∷ ks) (v ∷ vs) h =
-    (ltb-true v (2 ^ k) (and-left (ltb v (2 ^ k)) (fit ks vs) h), fit-true ks vs (and-right (ltb v (2 ^ k)) (fit ks vs) h))
+    let (first, rest) = both (ltb v (2 ^ k)) (fit ks vs) h in
+    (ltb-true v (2 ^ k) first, fit-true ks vs rest)
 
 pub true-fit : (ks vs : List ℕ) → Fit ks vs → fit ks vs ≡ true
 true-fit [] [] h = refl
@@ -87,6 +80,22 @@ true-fit (k ∷ ks) [] h = absurd h
 true-fit (k ∷ ks) (v ∷ vs) h = rw (lt-ltb v (2 ^ k) (h .0), true-fit ks vs (h .1))
 
 -- ---- masks, and the ones under them
+
+-- all k bits of a marked field, none of another
+abbrev pub filled : Bool → ℕ → ℕ
+filled marked k = cond marked (2 ^ k - 1) 0
+
+-- the bits of the marked fields
+abbrev pub mask : List ℕ → List Bool → ℕ
+mask [] marks = 0
+mask (k ∷ ks) [] = 0
+mask (k ∷ ks) (b ∷ marks) = filled b k * 2 ^ total ks + mask ks marks
+
+-- the marked values
+abbrev pub chosen : List Bool → List ℕ → List ℕ
+chosen [] vs = []
+chosen (b ∷ marks) [] = []
+chosen (b ∷ marks) (v ∷ vs) = cond b (v ∷ chosen marks vs) (chosen marks vs)
 
 filled-lt : (b : Bool) (k : ℕ) → filled b k < 2 ^ k
 filled-lt true k = ones-lt k

@@ -7,6 +7,8 @@ use Rattle.digits.proofs.bit.Reads as bit
 use Rattle.digits.proofs.with_bit.Reads as with-bit
 use Rattle.digits.proofs.both_decimal.Reads as both-decimal
 use Rattle.digits.proofs.first_of.Reads as first-of
+use Rattle.digits.proofs.storage_wrong.Reads as storage-wrong
+use Rattle.digits.proofs.sizes_wrong.Reads as sizes-wrong
 
 pub bit-sole : (κs : _) (args : _) (r q : Bool) (x y : _) → bit.Post κs args r x → bit.Post κs args q y → r ≡ q
 bit-sole κs args r q x y a b = sole a b
@@ -19,3 +21,9 @@ both-decimal-sole κs args r q x y a b = sole a b
 
 pub first-of-sole : (κs : _) (args : _) (r q : ℕ) (x y : _) → first-of.Post κs args r x → first-of.Post κs args q y → r ≡ q
 first-of-sole κs args r q x y a b = sole a b
+
+pub storage-wrong-sole : (κs : _) (args : _) (r q : Bool) (x y : _) → storage-wrong.Post κs args r x → storage-wrong.Post κs args q y → r ≡ q
+storage-wrong-sole κs args r q x y a b = sole a b
+
+pub sizes-wrong-sole : (κs : _) (args : _) (r q : Bool) (x y : _) → sizes-wrong.Post κs args r x → sizes-wrong.Post κs args q y → r ≡ q
+sizes-wrong-sole κs args r q x y a b = sole a b

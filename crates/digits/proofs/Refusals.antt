@@ -7,9 +7,10 @@ use mathlib.Core.Logic.{_↔_}
 use native.Mathlib.Nat.{not-suc-le-zero, le-of-suc-le-suc, zero-lt-suc}
 use native.Mathlib.Omega.{arith}
 use lib.Dec.{T, ltb, ltb→lt}
-use Rattle.digits.proofs.Table.{both-left, both-right}
 use lib.ListN.{length}
+use mir.Facts.{and-yes}
 use Rattle.digits.specs.Refusal.{Check, first, answer, numberAt, testAt, Given}
+use Rattle.digits.proofs.Truth.{zero-one, true-not-false}
 
 -- the answer where a number is given, and where none is
 module _ {A : Type 0} (refused : ℕ → A) (x : A) where
@@ -26,9 +27,6 @@ abbrev pub numbered : List Check → Bool
 numbered [] = true
 numbered ((zero, b) ∷ cs) = false
 numbered ((suc n, b) ∷ cs) = numbered cs
-
-true-not-false : {b : Bool} → b ≡ true → b ≡ false → ⊥
-true-not-false p q = let z : _≡_ {A = ℕ} 0 1 = cc in omega arith
 
 -- no test of the list holds
 abbrev pub None : List Check → Type 0
@@ -76,7 +74,7 @@ given-first cs n g = go cs (g .place) (g .inside) (g .number) (g .holds) (g .ear
 
 -- a first number that is not 0 is given
 pub first-given : (cs : List Check) (n : ℕ) → first cs ≡ suc n → Given (suc n) cs
-first-given [] n e = absurd (let z : _≡_ {A = ℕ} 0 1 = omega arith in omega arith)
+first-given [] n e = absurd (zero-one (omega arith))
 first-given ((m, true) ∷ cs) n e = subst (λ (k : ℕ). Given k ((m, true) ∷ cs)) e (here m cs)
 first-given ((m, false) ∷ cs) n e = later (first-given cs n e)
 
@@ -137,5 +135,5 @@ within k ((n, b) ∷ cs) = ltb n k && within k cs
 
 pub first-lt : (k : ℕ) (cs : List Check) → 0 < k → T (within k cs) → first cs < k
 first-lt k [] h t = h
-first-lt k ((n, true) ∷ cs) h t = ltb→lt n k (both-left (ltb n k) (within k cs) t)
-first-lt k ((n, false) ∷ cs) h t = first-lt k cs h (both-right (ltb n k) (within k cs) t)
+first-lt k ((n, true) ∷ cs) h t = ltb→lt n k (and-yes (ltb n k) (within k cs) t .0)
+first-lt k ((n, false) ∷ cs) h t = first-lt k cs h (and-yes (ltb n k) (within k cs) t .1)

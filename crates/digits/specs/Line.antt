@@ -1,11 +1,11 @@
 -- A number as a line of fields, high end first, by the list of their widths. Assumes nothing.
-use Prim.Native.Nat.{ℕ, _+_, _-_, _*_, _/_, _%_, _^_}
+use Prim.Native.Nat.{ℕ, _+_, _*_, _/_, _%_, _^_}
 use mathlib.Core.List.{List, [], _∷_}
-use mathlib.Core.Bool.{Bool, true, false, cond, _&&_}
+use mathlib.Core.Bool.{Bool, true, false, _&&_}
 use lib.Dec.{ltb}
 use lib.Count.{ones}
 
--- the bits of all the fields
+-- the sum of some numbers, as of the fields' bits
 abbrev pub total : List ℕ → ℕ
 total [] = 0
 total (k ∷ ks) = k + total ks
@@ -31,22 +31,6 @@ fit [] [] = true
 fit [] (v ∷ vs) = false
 fit (k ∷ ks) [] = false
 fit (k ∷ ks) (v ∷ vs) = ltb v (2 ^ k) && fit ks vs
-
--- all k bits of a marked field, none of another
-abbrev pub filled : Bool → ℕ → ℕ
-filled marked k = cond marked (2 ^ k - 1) 0
-
--- the bits of the marked fields
-abbrev pub mask : List ℕ → List Bool → ℕ
-mask [] marks = 0
-mask (k ∷ ks) [] = 0
-mask (k ∷ ks) (b ∷ marks) = filled b k * 2 ^ total ks + mask ks marks
-
--- the marked values
-abbrev pub chosen : List Bool → List ℕ → List ℕ
-chosen [] vs = []
-chosen (b ∷ marks) [] = []
-chosen (b ∷ marks) (v ∷ vs) = cond b (v ∷ chosen marks vs) (chosen marks vs)
 
 -- the ones of all the values
 abbrev pub onesOf : List ℕ → ℕ

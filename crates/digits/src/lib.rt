@@ -1,9 +1,10 @@
-// What everything stands on: a byte by its bits and its digits, and a refusal before others.
+// What everything stands on: a byte by its bits and its digits, a refusal before others, and the sizes that 1 asks for.
 ghost use mathlib.Core.Path.{_≡_};
 ghost use mathlib.Core.Bool.{cond};
 ghost use Prim.Native.Nat.{_-_, _^_};
 ghost use Rattle.digits.specs.Bits.{bit, withBit};
 ghost use Rattle.digits.specs.Digits.{bothDecimal};
+ghost use Rattle.digits.specs.Sizes.{storageWrong, sizesWrong};
 
 // How many bits of a byte stand below its bit `n`.
 fn below(n: u8) -> u8
@@ -52,4 +53,18 @@ pub fn first_of(test: bool, number: u8, later: u8) -> u8
     ensures { λ r. ⌜ r ≡ cond test number later ⌝ }
 {
     if test { number } else { later }
+}
+
+// 1, of main and local storage.
+pub fn storage_wrong(main: usize, local: usize) -> bool
+    ensures { λ r. ⌜ r ≡ storageWrong main local ⌝ }
+{
+    (main == 0) | ((65536 < main) | (local != 256))
+}
+
+// 1, of the word store too.
+pub fn sizes_wrong(store: usize, main: usize, local: usize) -> bool
+    ensures { λ r. ⌜ r ≡ sizesWrong store main local ⌝ }
+{
+    (store == 0) | ((4096 < store) | storage_wrong(main, local))
 }

@@ -10,10 +10,11 @@ use denote.Ref.{now}
 use Rattle.digits.specs.Refusal.{first, answer, Given}
 use Rattle.digits.proofs.Refusals.{exactly, given-none}
 use Rattle.digits.proofs.Sole.{sole}
+use Rattle.digits.proofs.Truth.{zero-one}
 use Rattle.deck.specs.Lists.{over}
 use Rattle.deck.specs.Deck.{readChecks, wordsOf}
 use Rattle.deck.proofs.Answers.{same-refusal, read-room}
-use Rattle.listing.specs.Listing.{lineOf, linesOf, zerosInFront, decimal, refusedWord, refusalOf, textOf, textChecks, putOf, roomAfter}
+use Rattle.listing.specs.Listing.{textLine, linesOf, zerosInFront, decimal, refusedWord, refusalOf, textOf, textChecks, putOf, roomAfter}
 use Rattle.listing.specs.declared.Listed.{Listed}
 use Rattle.listing.specs.declared.Listed.the-variants as L
 use Rattle.listing.proofs.Texts.{length-lines}
@@ -25,19 +26,19 @@ use Rattle.listing.proofs.print.Reads as print
 pub put-exactly : (text : List ℕ) (room n : ℕ) → (putOf text room ≡ L.Refused n) ↔ Given n (textChecks text room)
 unfolding putOf
 put-exactly text room =
-    exactly L.Refused (L.Text (length text)) (λ m n e. cc) (λ n e. let z : _≡_ {A = ℕ} 0 1 = cc in omega arith) (textChecks text room) tt
+    exactly L.Refused (L.Text (length text)) (λ m n e. cc) (λ n e. zero-one cc) (textChecks text room) tt
 
 -- refused, nothing is written
 pub put-nothing : (text old : List ℕ) (n : ℕ) → putOf text (length old) ≡ L.Refused n → roomAfter text old ≡ old
 unfolding putOf roomAfter
 put-nothing text old =
-    same-refusal L.Refused (L.Text (length text)) (λ m n e. cc) (λ n e. let z : _≡_ {A = ℕ} 0 1 = cc in omega arith) (λ n. old) (over text old) (first (textChecks text (length old)))
+    same-refusal L.Refused (L.Text (length text)) (λ m n e. cc) (λ n e. zero-one cc) (λ n. old) (over text old) (first (textChecks text (length old)))
 
 -- a text that is put lies in the room
 pub put-inside : (text : List ℕ) (room n : ℕ) → putOf text room ≡ L.Text n → n ≤ room
 unfolding putOf
 put-inside text room n e =
-    let (none, same) = given-none L.Refused (L.Text (length text)) (L.Text n) (λ m r. let z : _≡_ {A = ℕ} 0 1 = cc in omega arith) (textChecks text room) tt e in
+    let (none, same) = given-none L.Refused (L.Text (length text)) (L.Text n) (λ m r. zero-one cc) (textChecks text room) tt e in
     let size : length text ≡ n = let put : L.Text (length text) ≡ L.Text n = same in cc in
     let h = ltb-false room (length text) (none .0) in
     omega arith
@@ -63,7 +64,7 @@ text-short deck = by (first (readChecks deck 4096)) refl
 
 -- word P at address 0: 000 018093988E6801
 pub lines-of-P : linesOf (0x00018093988E6801 ∷ []) ≡ 48 ∷ 48 ∷ 48 ∷ 32 ∷ 48 ∷ 49 ∷ 56 ∷ 48 ∷ 57 ∷ 51 ∷ 57 ∷ 56 ∷ 56 ∷ 69 ∷ 54 ∷ 56 ∷ 48 ∷ 49 ∷ 10 ∷ []
-unfolding linesOf lineOf
+unfolding linesOf textLine
 lines-of-P = refl
 
 -- REFUSED 7 and REFUSED 15

@@ -13,7 +13,7 @@ use Rattle.deck.specs.Deck.{readChecks, readOf, wordsAfter, wordsOf}
 use Rattle.deck.specs.declared.Reading.the-variants as R
 use Rattle.deck.proofs.Lists.{placed-step, placed-end}
 use Rattle.deck.proofs.Answers.{same-refusal, was-read, taken}
-use Rattle.listing.specs.Listing.{lineOf, linesOf, refusalOf, textOf, putOf, roomAfter}
+use Rattle.listing.specs.Listing.{textLine, linesOf, refusalOf, textOf, putOf, roomAfter}
 use Rattle.listing.specs.declared.Listed.the-variants as L
 
 pub map-last : (f : ℕ → ℕ) (l : List ℕ) (x : ℕ) → map f (l ++ (x ∷ [])) ≡ map f l ++ (f x ∷ [])
@@ -22,13 +22,13 @@ map-last f (y ∷ l) x = ap (λ (r : List ℕ). f y ∷ r) (map-last f l x)
 
 -- ---- lines
 
-pub length-line : (a w : ℕ) → length (lineOf a w) ≡ 19
-unfolding lineOf
+pub length-line : (a w : ℕ) → length (textLine a w) ≡ 19
+unfolding textLine
 length-line a w = refl
 
-length-from : (a : ℕ) (ws : List ℕ) → length (joined (placed lineOf a ws)) ≡ 19 * length ws
+length-from : (a : ℕ) (ws : List ℕ) → length (joined (placed textLine a ws)) ≡ 19 * length ws
 length-from a [] = refl
-length-from a (w ∷ ws) = length-append (lineOf a w) _ ∙ rw (length-line a w, length-from (suc a) ws) (omega arith)
+length-from a (w ∷ ws) = length-append (textLine a w) _ ∙ rw (length-line a w, length-from (suc a) ws) (omega arith)
 
 pub length-lines : (ws : List ℕ) → length (linesOf ws) ≡ 19 * length ws
 unfolding linesOf
@@ -36,13 +36,13 @@ length-lines ws = length-from 0 ws
 
 -- the lines from word i on
 abbrev pub restOf : List ℕ → ℕ → List ℕ
-restOf ws i = joined (placed lineOf (0 + i) (drop i ws))
+restOf ws i = joined (placed textLine (0 + i) (drop i ws))
 
-pub rest-step : (ws : List ℕ) (i : ℕ) → i < length ws → restOf ws i ≡ lineOf i (getD ws i 0) ++ restOf ws (i + 1)
-rest-step ws i h = rw (placed-step lineOf ws 0 0 i h, zero-add i)
+pub rest-step : (ws : List ℕ) (i : ℕ) → i < length ws → restOf ws i ≡ textLine i (getD ws i 0) ++ restOf ws (i + 1)
+rest-step ws i h = rw (placed-step textLine ws 0 0 i h, zero-add i)
 
 pub rest-end : (ws : List ℕ) (i : ℕ) → length ws ≤ i → restOf ws i ≡ []
-rest-end ws i h = rw (placed-end lineOf ws (0 + i) i h)
+rest-end ws i h = rw (placed-end textLine ws (0 + i) i h)
 
 -- ---- a text in a room that is too small, and in one that is not
 

@@ -19,12 +19,12 @@ abbrev pub hexadecimal : ℕ → ℕ → List ℕ
 hexadecimal k number = map capital (digitsOf 4 k number)
 
 -- "per word, address as 3 hexadecimal digits, a space, the word as 14, capitals, line feed."
-unfoldable pub lineOf : ℕ → ℕ → List ℕ
-lineOf address word = hexadecimal 3 address ++ (32 ∷ (hexadecimal 14 word ++ (10 ∷ [])))
+unfoldable pub textLine : ℕ → ℕ → List ℕ
+textLine address word = hexadecimal 3 address ++ (32 ∷ (hexadecimal 14 word ++ (10 ∷ [])))
 
 -- "No header."
 unfoldable pub linesOf : List ℕ → List ℕ
-linesOf ws = joined (placed lineOf 0 ws)
+linesOf ws = joined (placed textLine 0 ws)
 
 -- "the number in decimal": the three digits of a byte, without the zeros in front
 abbrev pub zerosInFront : ℕ → ℕ

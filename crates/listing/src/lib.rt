@@ -4,7 +4,7 @@ ghost use mathlib.Core.List.{_++_};
 ghost use Prim.Native.Nat.{_+_, _*_, _<_, _≤_};
 ghost use lib.ListN.{length};
 ghost use Rattle.deck.specs.Lists.{over};
-ghost use Rattle.listing.specs.Listing.{capital, hexadecimal, lineOf, linesOf, zerosInFront, refusalOf, textOf, putOf, roomAfter};
+ghost use Rattle.listing.specs.Listing.{capital, hexadecimal, textLine, linesOf, zerosInFront, refusalOf, textOf, putOf, roomAfter};
 use deck::Reading;
 
 pub enum Listed {
@@ -34,7 +34,7 @@ fn put_hexadecimal(number: u64, out: &mut [u8])
 
 // The line of a word at its address.
 fn line(address: u64, word: u64) -> [u8; 19]
-    ensures { λ r. ⌜ r ≡ lineOf address word ⌝ }
+    ensures { λ r. ⌜ r ≡ textLine address word ⌝ }
 {
     let mut text = [b' '; 19];
     put_hexadecimal(address, &mut text[0..3]);

@@ -2,13 +2,14 @@
 use Prim.Native.Nat.{ℕ, zero, suc, _+_, _<_, _≤_}
 use mathlib.Core.Path.{_≡_, refl, sym, ap, subst, _∙_}
 use mathlib.Core.List.{List, _++_}
-use mathlib.Core.Bool.{Bool, true, false, _||_}
+use mathlib.Core.Bool.{true, false}
 use native.Mathlib.Omega.{arith}
-use borrow.Author.Tests.{ltb-false, leb-false, eqb-true, ne-eqb, not-false}
-use lib.Dec.{leb, ltb, eqb}
+use borrow.Author.Tests.{leb-false, ne-eqb}
+use lib.Dec.{leb}
 use lib.ListN.{length}
 use Rattle.digits.specs.Refusal.{Check, first}
 use Rattle.digits.proofs.Refusals.{first-none, append-none, append-some, first-lt}
+use Rattle.digits.proofs.Sizes.{right-storage, right-sizes}
 use Rattle.word.specs.Layout.{lineOf, fieldsOf}
 use Rattle.word.specs.Word.{faultChecks, faultOf, takenApart}
 use Rattle.word.specs.declared.Fields.{Fields}
@@ -19,7 +20,8 @@ use Rattle.machine.specs.Sources.{entered, sumIn}
 use Rattle.machine.specs.Storage.{accessOf, outside, fetchedOf, mainAfter, localAfter}
 use Rattle.machine.specs.declared.Access.{Access}
 use Rattle.machine.specs.Modelled.{unmodelledOf}
-use Rattle.machine.specs.Cycle.{outcome, sizesWrong, stops, accessIn, stepChecks, cycleChecks, wordAt, after, ranOf, decided, stepOf, cycleOf}
+use Rattle.digits.specs.Sizes.{sizesWrong}
+use Rattle.machine.specs.Cycle.{outcome, stops, accessIn, stepChecks, cycleChecks, wordAt, after, ranOf, decided, stepOf, cycleOf}
 use Rattle.machine.specs.declared.State.{State}
 use Rattle.machine.specs.declared.Cycled.the-variants.{Ran, Stopped, Refused}
 
@@ -52,24 +54,12 @@ ran-is f main local main′ local′ s e t a z b pe pa pz pb pt pm pl = rw (pt, 
 pub fields-small : (w a : ℕ) (f : Fields) → takenApart w a ≡ A.Fields f → (f .cn < 64) × (f .ck < 16)
 fields-small w a f e = subst (λ (g : Fields). (g .cn < 64) × (g .ck < 16)) (apart-fields w a f e .1) (omega arith)
 
-or-false : (a b : Bool) → a || b ≡ false → (a ≡ false) × (b ≡ false)
-or-false true b h = let z : _≡_ {A = ℕ} 0 1 = cc in absurd (omega arith)
-or-false false b h = (refl, h)
-
 -- a store of the right size has addresses of 12 bits
 pub address-fits : (store main local wx : ℕ) → sizesWrong store main local ≡ false → leb store wx ≡ false → wx ≤ 4095
-address-fits store main local wx h l =
-    let (a, b) = or-false (eqb store 0) _ h in
-    let (d, e) = or-false (ltb 4096 store) _ b in
-    omega (arith, ltb-false 4096 store d, leb-false store wx l)
+address-fits store main local wx h l = omega (arith, right-sizes store main local h .0, leb-false store wx l)
 
 pub local-fits : (store main local : ℕ) → sizesWrong store main local ≡ false → local ≡ 256
-local-fits store main local h =
-    let (_, b) = or-false (eqb store 0) _ h in
-    let (_, c) = or-false (ltb 4096 store) _ b in
-    let (_, d) = or-false (eqb main 0) _ c in
-    let (_, e) = or-false (ltb 65536 main) _ d in
-    eqb-true local 256 (not-false (eqb local 256) e)
+local-fits store main local h = right-storage main local (right-sizes store main local h .1) .1
 
 decided-refused : (n : ℕ) (f : Fields) (main local : List ℕ) (s : State) → n < 10 → (n ≡ 0 → ⊥) → decided n (stops f) f main local s ≡ outcome (Refused s n 0) main local
 decided-refused zero f main local s h z = absurd (z refl)

@@ -3,4 +3,3 @@ mod Inside
 mod Scan
 pub mod Cycles
 pub mod Promises
-pub mod Bytes

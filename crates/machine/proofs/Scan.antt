@@ -9,9 +9,10 @@ use borrow.Author.Tests.{eq-eqb, ne-eqb}
 use lib.Dec.{ltb, leb, eqb}
 use lib.ListN.{getD, take, drop}
 use lib.Seq.{drop-cons}
+use Rattle.digits.specs.Table.{among}
 use Rattle.word.specs.Parity.{caToW}
 use Rattle.word.specs.declared.Fields.{Fields}
-use Rattle.machine.specs.Modelled.{among, unmodelledOf}
+use Rattle.machine.specs.Modelled.{unmodelledOf}
 
 -- the code's two tables
 abbrev places : List ℕ

@@ -1,10 +1,11 @@
 -- "One cycle", in the paper's order. Assumes nothing.
 use Prim.Native.Nat.{ℕ, zero, suc}
 use mathlib.Core.List.{List, [], _∷_, _++_}
-use mathlib.Core.Bool.{Bool, true, false, cond, not, _&&_, _||_}
-use lib.Dec.{eqb, leb, ltb}
+use mathlib.Core.Bool.{Bool, true, false, cond, not, _&&_}
+use lib.Dec.{eqb, leb}
 use lib.ListN.{getD, length}
 use Rattle.digits.specs.Refusal.{Check, first}
+use Rattle.digits.specs.Sizes.{sizesWrong}
 use Rattle.word.specs.Layout.{lineOf, fieldsOf}
 use Rattle.word.specs.Word.{faultChecks, takenApart}
 use Rattle.word.specs.declared.Apart.{Apart}
@@ -24,21 +25,13 @@ use Rattle.machine.specs.declared.NextSum.{NextSum}
 use Rattle.machine.specs.declared.NextSum.the-variants.{Sums, Nothing}
 
 -- an answer, and both storages as they then are
-pub record Outcome : Type 0 where
-  pub answer : Cycled
+pub record Outcome (A : Type 0) : Type 0 where
+  pub answer : A
   pub main : List ℕ
   pub local : List ℕ
 
-abbrev pub outcome : Cycled → List ℕ → List ℕ → Outcome
+abbrev pub outcome : {A : Type 0} → A → List ℕ → List ℕ → Outcome A
 outcome answer main local = record { answer = answer; main = main; local = local }
-
--- 1: "main storage empty or over 65,536; local not 256 bytes"
-abbrev pub storageWrong : ℕ → ℕ → Bool
-storageWrong main local = eqb main 0 || (ltb 65536 main || not (eqb local 256))
-
--- 1: "word store empty or over 4,096", or the storages
-abbrev pub sizesWrong : ℕ → ℕ → ℕ → Bool
-sizesWrong store main local = eqb store 0 || (ltb 4096 store || storageWrong main local)
 
 -- "4 stop"
 abbrev pub stops : Fields → Bool
@@ -96,7 +89,7 @@ after f z a fetched s =
     }
 
 -- a to e: what the fields do
-unfoldable pub ranOf : Fields → List ℕ → List ℕ → State → Outcome
+unfoldable pub ranOf : Fields → List ℕ → List ℕ → State → Outcome Cycled
 ranOf f main local s =
     let e : State = entered f s in
     let a : Access = accessOf f e in
@@ -107,25 +100,25 @@ abbrev pub fieldOf : ℕ → Fields → ℕ
 fieldOf number f = cond (eqb number 10) (unmodelledOf f) 0
 
 -- "A cycle answers ran, stopped or refused, each with its state." Stop and "refusals change nothing"
-abbrev pub decided : ℕ → Bool → Fields → List ℕ → List ℕ → State → Outcome
+abbrev pub decided : ℕ → Bool → Fields → List ℕ → List ℕ → State → Outcome Cycled
 decided (suc number) stop f main local s = outcome (Refused s (suc number) (fieldOf (suc number) f)) main local
 decided zero true f main local s = outcome (Stopped s) main local
 decided zero false f main local s = ranOf f main local s
 
 -- from the fields on
-abbrev pub stepOf : Fields → List ℕ → List ℕ → State → Outcome
+abbrev pub stepOf : Fields → List ℕ → List ℕ → State → Outcome Cycled
 stepOf f main local s = decided (first (stepChecks f (length main) s)) (stops f) f main local s
 
-unfoldable pub cycleOf : List ℕ → List ℕ → List ℕ → State → Outcome
+unfoldable pub cycleOf : List ℕ → List ℕ → List ℕ → State → Outcome Cycled
 cycleOf store main local s =
     let f : Fields = fieldsOf (wordAt store s) in
     decided (first (cycleChecks store main local s)) (stops f) f main local s
 
 -- the paper's number of each answer, 0 where it does not refuse
-abbrev pub numberOf : Cycled → ℕ
-numberOf (Ran t) = 0
-numberOf (Stopped t) = 0
-numberOf (Refused t number field) = number
+abbrev pub refusalNumber : Cycled → ℕ
+refusalNumber (Ran t) = 0
+refusalNumber (Stopped t) = 0
+refusalNumber (Refused t number field) = number
 
 -- what the adder answers for a word that does not stop
 abbrev pub sumBy : Fields → State → NextSum

@@ -9,7 +9,7 @@ mod tables;
 ghost use mathlib.Core.Path.{_≡_};
 ghost use Prim.Native.Nat.{_<_};
 ghost use lib.ListN.{length};
-ghost use Rattle.machine.specs.Cycle.{outcome, storageWrong, sizesWrong, after, stepOf, cycleOf, sumBy, nextSumOf};
+ghost use Rattle.machine.specs.Cycle.{outcome, after, stepOf, cycleOf, sumBy, nextSumOf};
 use adder::Sum;
 use word::Apart;
 use word::Fields;
@@ -92,20 +92,6 @@ fn after(f: Fields, z: Sum, a: Access, fetched: u8, s: State) -> State
     }
 }
 
-// 1, of main and local storage.
-pub fn storage_wrong(main: usize, local: usize) -> bool
-    ensures { λ r. ⌜ r ≡ storageWrong main local ⌝ }
-{
-    (main == 0) | ((65536 < main) | (local != 256))
-}
-
-// 1, of the word store too.
-pub fn sizes_wrong(store: usize, main: usize, local: usize) -> bool
-    ensures { λ r. ⌜ r ≡ sizesWrong store main local ⌝ }
-{
-    (store == 0) | ((4096 < store) | storage_wrong(main, local))
-}
-
 // What the fields of a word do: decide everything, then make at most one store.
 fn step(by_table: bool, f: Fields, main: &mut [u8], local: &mut [u8], s: State) -> Cycled
     requires { ⌜ (f .cn < 64) × ((f .ck < 16) × (length (now local) ≡ 256)) ⌝ }
@@ -138,7 +124,7 @@ fn cycle_with(
 ) -> Cycled
     ensures { λ r. ⌜ outcome r (now (main .exit)) (now (local .exit)) ≡ cycleOf (now (store .entry)) (now (main .entry)) (now (local .entry)) state ⌝ }
 {
-    if sizes_wrong(store.len(), main.len(), local.len()) {
+    if digits::sizes_wrong(store.len(), main.len(), local.len()) {
         return Cycled::Refused(state, 1, 0);
     }
     let at = state.wx as usize;

@@ -3,8 +3,9 @@ use mathlib.Core.Path.{refl}
 use lib.Count.{ones}
 use Rattle.word.specs.Word.{packed, inWidth, takenApart}
 use Rattle.adder.specs.Adder.{arithmetic, sumOf}
-use Rattle.numbers.specs.Starred.{Every, rows}
+use Rattle.digits.specs.Table.{Each}
+use Rattle.numbers.specs.Starred.{Holds, rows}
 
-pub starred : Every rows
+pub starred : Each Holds rows
 unfolding packed inWidth takenApart ones sumOf arithmetic
 starred = (refl, (refl, ((refl, refl), ((refl, refl), ((refl, refl), ((refl, refl), ((refl, refl), (refl, (refl, ((refl, refl), ((refl, refl), tt)))))))))))

@@ -38,10 +38,6 @@ Holds (adds a b c result ac) = (sumOf a b c .result ≡ result) × (sumOf a b c 
 Holds (gates cf a result) = sumOf a 0 (alone cf) .result ≡ result
 Holds (carries a b c one ac) = (sumOf a b c .«one_bc» ≡ one) × (sumOf a b c .ac ≡ ac)
 
-abbrev pub Every : List Row → Type 0
-Every [] = Unit {0}
-Every (row ∷ rows) = Holds row × Every rows
-
 abbrev binary : Controls
 binary = all 0 0 false
 

@@ -11,15 +11,16 @@ use Rattle.digits.specs.Refusal.{first}
 use Rattle.digits.proofs.Sole.{sole}
 use Rattle.word.specs.Layout.{fieldsOf}
 use Rattle.word.specs.declared.Fields.{Fields}
-use Rattle.machine.specs.Cycle.{stops, cycleChecks, wordAt, ranOf, decided, cycleOf}
+use Rattle.machine.specs.Cycle.{Outcome, outcome, stops, cycleChecks, wordAt, ranOf, decided, cycleOf}
 use Rattle.machine.specs.declared.State.{State}
 use Rattle.machine.specs.declared.Cycled.{Cycled}
 use Rattle.machine.specs.declared.Cycled.the-variants as C
 use Rattle.machine.proofs.Promises.{refusal-keeps, stop-keeps}
-use Rattle.run.specs.Run.{Ran, runChecks, runBy, runOf}
+use Rattle.run.specs.Run.{runChecks, runBy, runOf}
+use Rattle.run.specs.declared.Finished.{Finished}
 use Rattle.run.proofs.Goes.{Machine, machine, Goes, here, next, done}
 use Rattle.panel.specs.Record.{loaded}
-use Rattle.panel.specs.Answers.{RAN, coded, STOPPED, REFUSED, answered, Called, called, short, cycled, cycleCall, ranBy, runCall, stored}
+use Rattle.panel.specs.Answers.{RAN, coded, STOPPED, REFUSED, answered, Called, called, short, cycled, cycleCall, ranBy, runCall}
 use Rattle.panel.proofs.panel_take_apart.Reads as take-apart
 use Rattle.panel.proofs.panel_pack.Reads as pack
 use Rattle.panel.proofs.panel_cycle.Reads as cycle
@@ -61,7 +62,7 @@ goes-none here e = refl
 goes-none (next a g) e = absurd (omega arith)
 
 module _ (budget : ℕ) (store main local : List ℕ) (s : State) where
-  none-by : (k : ℕ) → runBy k budget store main local s .finished .count ≡ 0 → (runBy k budget store main local s .main ≡ main) × (runBy k budget store main local s .local ≡ local)
+  none-by : (k : ℕ) → runBy k budget store main local s .answer .count ≡ 0 → (runBy k budget store main local s .main ≡ main) × (runBy k budget store main local s .local ≡ local)
   none-by (suc k) e = (refl, refl)
   none-by zero e =
       let d = done budget 0 store (machine s main local) in
@@ -69,11 +70,11 @@ module _ (budget : ℕ) (store main local : List ℕ) (s : State) where
       let x = goes-none (d .goes) (omega arith) in
       (ap (λ (m : Machine). m .main) x, ap (λ (m : Machine). m .local) x)
 
-  run-none : runOf budget store main local s .finished .count ≡ 0 → (runOf budget store main local s .main ≡ main) × (runOf budget store main local s .local ≡ local)
+  run-none : runOf budget store main local s .answer .count ≡ 0 → (runOf budget store main local s .main ≡ main) × (runOf budget store main local s .local ≡ local)
   unfolding runOf
   run-none = none-by (first (runChecks (length store) (length main) (length local) budget))
 
-ran-none : (r : Ran) (main local state : List ℕ) → r .finished .count ≡ 0 → r .main ≡ main → r .local ≡ local → Untouched main local state (ranBy r state)
+ran-none : (r : Outcome Finished) (main local state : List ℕ) → r .answer .count ≡ 0 → r .main ≡ main → r .local ≡ local → Untouched main local state (ranBy r state)
 ran-none r main local state e em el = rw (e, em, el)
 
 -- a run of which no cycle ran
@@ -81,13 +82,13 @@ pub run-keeps : (store main local state : List ℕ) (budget : ℕ) → runCall s
 unfolding runCall
 run-keeps store main local state budget = by (ltb (length state) 22)
   where
-    r : Ran
+    r : Outcome Finished
     r = runOf budget store main local (loaded state)
 
     by : (b : Bool) → cond b (short main local state) (ranBy r state) .number < 2 ^ 32 → Untouched main local state (cond b (short main local state) (ranBy r state))
     by true h = refl
     by false h =
-        let e : r .finished .count ≡ 0 = omega arith in
+        let e : r .answer .count ≡ 0 = omega arith in
         let (m, l) = run-none budget store main local (loaded state) e in
         ran-none r main local state e m l
 
@@ -129,7 +130,7 @@ pub run-sole : (κs : _) (args : _) (r q : ℕ) (x y : _) → run.Post κs args 
     → called r (now (x .1 .0)) (now (x .1 .1 .0)) (now (x .1 .1 .1 .0)) ≡ called q (now (y .1 .0)) (now (y .1 .1 .0)) (now (y .1 .1 .1 .0))
 run-sole κs args r q x y a b = sole a b
 
-pub add-decimal-sole : (κs : _) (args : _) (r q : ℕ) (x y : _) → add-decimal.Post κs args r x → add-decimal.Post κs args q y → stored r (now (x .0)) (now (x .1 .0)) ≡ stored q (now (y .0)) (now (y .1 .0))
+pub add-decimal-sole : (κs : _) (args : _) (r q : ℕ) (x y : _) → add-decimal.Post κs args r x → add-decimal.Post κs args q y → outcome r (now (x .0)) (now (x .1 .0)) ≡ outcome q (now (y .0)) (now (y .1 .0))
 add-decimal-sole κs args r q x y a b = sole a b
 
 pub read-deck-sole : (κs : _) (args : _) (r q : ℕ) (x y : _) → read-deck.Post κs args r x → read-deck.Post κs args q y → answered r (now (x .1 .0)) ≡ answered q (now (y .1 .0))

@@ -10,17 +10,18 @@ use lib.Dec.{eqb}
 use lib.ListN.{length, getD, drop, replicate}
 use lib.Seq.{drop-cons}
 use Rattle.digits.specs.Bits.{one}
+use Rattle.digits.proofs.Truth.{zero-one}
 use Rattle.deck.specs.Lists.{over}
 use Rattle.word.specs.declared.Fields.{Fields}
 use Rattle.machine.specs.declared.State.{State}
-use Rattle.panel.specs.Record.{Lamps, byte, pair, latch, Value, Values, size, bytesOf, valueAt, save, load, channels, valuesOf, stateBy, saved, loaded, fieldBytes, fieldsIn}
+use Rattle.panel.specs.Record.{Lamps, byte, pair, latch, Value, Values, size, lampBytes, valueAt, save, load, channels, valuesOf, stateBy, saved, loaded, fieldBytes, fieldsIn}
 
 -- ---- what was saved is loaded again
 
 -- one byte of what stands from a place on
 next-byte : (l : List ℕ) (i x : ℕ) (rest : List ℕ) → drop i l ≡ x ∷ rest → (getD l i 0 ≡ x) × (drop (i + 1) l ≡ rest)
-next-byte [] zero x rest e = let z : _≡_ {A = ℕ} 0 1 = cc in absurd (omega arith)
-next-byte [] (suc i) x rest e = let z : _≡_ {A = ℕ} 0 1 = cc in absurd (omega arith)
+next-byte [] zero x rest e = absurd (zero-one cc)
+next-byte [] (suc i) x rest e = absurd (zero-one cc)
 next-byte (y ∷ l) zero x rest e = (cc, cc)
 next-byte (y ∷ l) (suc i) x rest e =
     let (a, b) = next-byte l i x rest e in
@@ -34,7 +35,7 @@ latch-back true = refl
 latch-back false = refl
 
 -- one channel at its place
-one-loaded : (c : Lamps) (v : Value c) (l : List ℕ) (i : ℕ) (rest : List ℕ) → drop i l ≡ bytesOf c v ++ rest → (valueAt c i l ≡ v) × (drop (i + size c) l ≡ rest)
+one-loaded : (c : Lamps) (v : Value c) (l : List ℕ) (i : ℕ) (rest : List ℕ) → drop i l ≡ lampBytes c v ++ rest → (valueAt c i l ≡ v) × (drop (i + size c) l ≡ rest)
 one-loaded byte v l i rest e = next-byte l i v rest e
 one-loaded pair v l i rest e =
     let (a, d) = next-byte l i (v / 256) (v % 256 ∷ rest) e in
@@ -49,7 +50,7 @@ one-loaded latch v l i rest e =
 pub load-saved : (cs : List Lamps) (vs : Values cs) (l : List ℕ) (i : ℕ) (rest : List ℕ) → drop i l ≡ save cs vs ++ rest → load cs i l ≡ vs
 load-saved [] vs l i rest e = refl
 load-saved (c ∷ cs) (v, vs) l i rest e =
-    let (a, d) = one-loaded c v l i (save cs vs ++ rest) (e ∙ append-assoc (bytesOf c v) (save cs vs) rest) in
+    let (a, d) = one-loaded c v l i (save cs vs ++ rest) (e ∙ append-assoc (lampBytes c v) (save cs vs) rest) in
     let b = load-saved cs vs l (i + size c) rest d in
     λ j. (a j, b j)
 
@@ -82,7 +83,7 @@ bit-back zero h = refl
 bit-back (suc zero) h = refl
 bit-back (suc (suc b)) h = absurd (omega arith)
 
-one-saved : (c : Lamps) (l : List ℕ) (i : ℕ) → i + size c ≤ length l → Clean c i l → bytesOf c (valueAt c i l) ++ drop (i + size c) l ≡ drop i l
+one-saved : (c : Lamps) (l : List ℕ) (i : ℕ) → i + size c ≤ length l → Clean c i l → lampBytes c (valueAt c i l) ++ drop (i + size c) l ≡ drop i l
 one-saved byte l i h k = byte-back l i (omega arith)
 one-saved pair l i h k =
     let two : i + 2 ≡ i + 1 + 1 = omega arith in
@@ -95,9 +96,9 @@ save-loaded [] l i h k = rw add-zero
 save-loaded (c ∷ cs) l i h (k, ks) =
     let v : Value c = valueAt c i l in
     let along : i + (size c + width cs) ≡ i + size c + width cs = omega arith in
-    append-assoc (bytesOf c v) (save cs (load cs (i + size c) l)) (drop (i + (size c + width cs)) l)
-    ∙ ap (λ (n : ℕ). bytesOf c v ++ (save cs (load cs (i + size c) l) ++ drop n l)) along
-    ∙ ap (λ (t : List ℕ). bytesOf c v ++ t) (save-loaded cs l (i + size c) (omega arith) ks)
+    append-assoc (lampBytes c v) (save cs (load cs (i + size c) l)) (drop (i + (size c + width cs)) l)
+    ∙ ap (λ (n : ℕ). lampBytes c v ++ (save cs (load cs (i + size c) l) ++ drop n l)) along
+    ∙ ap (λ (t : List ℕ). lampBytes c v ++ t) (save-loaded cs l (i + size c) (omega arith) ks)
     ∙ one-saved c l i (omega arith) k
 
 -- ---- the state's record

@@ -10,14 +10,15 @@ use Rattle.word.specs.declared.Apart.{Apart}
 use Rattle.word.specs.declared.Apart.the-variants as A
 use Rattle.word.specs.declared.Packed.{Packed}
 use Rattle.word.specs.declared.Packed.the-variants as P
-use Rattle.machine.specs.Cycle.{Outcome, cycleOf}
+use Rattle.machine.specs.Cycle.{Outcome, outcome, cycleOf}
 use Rattle.machine.specs.declared.State.{State}
 use Rattle.machine.specs.declared.Cycled.{Cycled}
 use Rattle.machine.specs.declared.Cycled.the-variants as C
-use Rattle.run.specs.Run.{Ran, runOf}
+use Rattle.run.specs.Run.{runOf}
+use Rattle.run.specs.declared.Finished.{Finished}
 use Rattle.run.specs.declared.Ending.{Ending}
 use Rattle.run.specs.declared.Ending.the-variants as E
-use Rattle.decimal.specs.Entry.{Result, addOf}
+use Rattle.decimal.specs.Entry.{addOf}
 use Rattle.decimal.specs.declared.Added.{Added}
 use Rattle.decimal.specs.declared.Added.the-variants as D
 use Rattle.deck.specs.Lists.{over}
@@ -66,23 +67,23 @@ abbrev pub answered : ℕ → List ℕ → Answered
 answered number lent = record { number = number; lent = lent }
 
 -- "0, with the 18 fields other than PN, PA, PS and PC written in word order, one to a byte; or the refusal's number."
-abbrev pub apart : Apart → List ℕ → Answered
-apart (A.Fields f) fields = answered 0 (over (fieldBytes f) fields)
-apart (A.Refused number) fields = answered number fields
+abbrev pub answerApart : Apart → List ℕ → Answered
+answerApart (A.Fields f) fields = answered 0 (over (fieldBytes f) fields)
+answerApart (A.Refused number) fields = answered number fields
 
 -- "19 where fewer than 18 bytes are lent, checked first."
 unfoldable pub takeApartCall : ℕ → ℕ → List ℕ → Answered
-takeApartCall word address fields = cond (ltb (length fields) 18) (answered 19 fields) (apart (takenApart word address) fields)
+takeApartCall word address fields = cond (ltb (length fields) 18) (answered 19 fields) (answerApart (takenApart word address) fields)
 
 -- "0, with the word written to word[0]; or the refusal's number."
-abbrev pub joined : Packed → List ℕ → Answered
-joined (P.Word w) word = answered 0 (over (w ∷ []) word)
-joined (P.Refused number) word = answered number word
+abbrev pub answerPacked : Packed → List ℕ → Answered
+answerPacked (P.Word w) word = answered 0 (over (w ∷ []) word)
+answerPacked (P.Refused number) word = answered number word
 
 -- "19 where fewer than 18 fields or no word are lent, checked first; further bytes are not read."
 unfoldable pub packCall : List ℕ → ℕ → List ℕ → Answered
 packCall fields address word =
-    cond (ltb (length fields) 18 || ltb (length word) 1) (answered 19 word) (joined (packed (fieldsIn fields) address) word)
+    cond (ltb (length fields) 18 || ltb (length word) 1) (answered 19 word) (answerPacked (packed (fieldsIn fields) address) word)
 
 -- ---- a cycle, a run
 
@@ -106,7 +107,7 @@ cycled (C.Ran s) main local state = called (coded RAN 0 0) main local (over (sav
 cycled (C.Stopped s) main local state = called (coded STOPPED 0 0) main local state
 cycled (C.Refused s number field) main local state = called (coded REFUSED number field) main local state
 
-abbrev pub cycledBy : Outcome → List ℕ → Called
+abbrev pub cycledBy : Outcome Cycled → List ℕ → Called
 cycledBy o state = cycled (o .answer) (o .main) (o .local) state
 
 unfoldable pub cycleCall : List ℕ → List ℕ → List ℕ → List ℕ → Called
@@ -123,9 +124,9 @@ endingCode E.Spent = coded SPENT 0 0
 abbrev pub recordAfter : ℕ → State → List ℕ → List ℕ
 recordAfter count s state = cond (eqb count 0) state (over (saved s) state)
 
-abbrev pub ranBy : Ran → List ℕ → Called
+abbrev pub ranBy : Outcome Finished → List ℕ → Called
 ranBy r state =
-    called (counted (endingCode (r .finished .ending)) (r .finished .count)) (r .main) (r .local) (recordAfter (r .finished .count) (r .finished .state) state)
+    called (counted (endingCode (r .answer .ending)) (r .answer .count)) (r .main) (r .local) (recordAfter (r .answer .count) (r .answer .state) state)
 
 unfoldable pub runCall : List ℕ → List ℕ → List ℕ → List ℕ → ℕ → Called
 runCall store main local state budget =
@@ -133,26 +134,17 @@ runCall store main local state budget =
 
 -- ---- decimal add
 
--- a number, and both storages as they then are
-pub record Stored : Type 0 where
-  pub number : ℕ
-  pub main : List ℕ
-  pub local : List ℕ
-
-abbrev pub stored : ℕ → List ℕ → List ℕ → Stored
-stored number main local = record { number = number; main = main; local = local }
-
 -- "kind (PANEL_SUMMED, PANEL_BAD_DIGIT or PANEL_REFUSED) + 256 * refusal number + 65536 * carry out + 2^32 * the cycles that ran"
 abbrev pub addedCode : Added → ℕ
 addedCode (D.Summed carry count) = counted (coded SUMMED 0 (one carry)) count
 addedCode (D.BadDigit count) = counted (coded BAD-DIGIT 0 0) count
 addedCode (D.Refused number) = counted (coded REFUSED number 0) 0
 
-abbrev pub addedBy : Result → Stored
-addedBy o = stored (addedCode (o .answer)) (o .main) (o .local)
+abbrev pub addedBy : Outcome Added → Outcome ℕ
+addedBy o = outcome (addedCode (o .answer)) (o .main) (o .local)
 
 -- "carry_in: off at 0, on otherwise"
-unfoldable pub addDecimalCall : List ℕ → List ℕ → ℕ → ℕ → ℕ → ℕ → Stored
+unfoldable pub addDecimalCall : List ℕ → List ℕ → ℕ → ℕ → ℕ → ℕ → Outcome ℕ
 addDecimalCall main local first second n carry = addedBy (addOf main local first second n (not (eqb carry 0)))
 
 -- ---- a deck

@@ -30,10 +30,10 @@ size pair = 2
 size latch = 1
 
 -- the bytes of a value: "high byte first"; a latch's is 0 or 1
-abbrev pub bytesOf : (c : Lamps) → Value c → List ℕ
-bytesOf byte x = x ∷ []
-bytesOf pair x = x / 256 ∷ x % 256 ∷ []
-bytesOf latch on = one on ∷ []
+abbrev pub lampBytes : (c : Lamps) → Value c → List ℕ
+lampBytes byte x = x ∷ []
+lampBytes pair x = x / 256 ∷ x % 256 ∷ []
+lampBytes latch on = one on ∷ []
 
 -- the value at a place: "A latch byte is off at 0 and on at any other value"
 abbrev pub valueAt : (c : Lamps) → ℕ → List ℕ → Value c
@@ -44,7 +44,7 @@ valueAt latch i bytes = not (eqb (getD bytes i 0) 0)
 -- the bytes of the values one after the other, and the values from a place on
 abbrev pub save : (cs : List Lamps) → Values cs → List ℕ
 save [] vs = []
-save (c ∷ cs) (v, vs) = bytesOf c v ++ save cs vs
+save (c ∷ cs) (v, vs) = lampBytes c v ++ save cs vs
 
 abbrev pub load : (cs : List Lamps) → ℕ → List ℕ → Values cs
 load [] i bytes = tt

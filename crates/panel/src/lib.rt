@@ -4,7 +4,8 @@ mod record;
 ghost use mathlib.Core.Path.{_≡_};
 ghost use Prim.Native.Nat.{_≤_};
 ghost use lib.ListN.{length};
-ghost use Rattle.panel.specs.Answers.{coded, counted, answered, takeApartCall, packCall, called, cycleCall, endingCode, recordAfter, runCall, stored, addedCode, addDecimalCall, readDeckCall, writeDeckCall};
+ghost use Rattle.machine.specs.Cycle.{outcome};
+ghost use Rattle.panel.specs.Answers.{coded, counted, answered, takeApartCall, packCall, called, cycleCall, endingCode, recordAfter, runCall, addedCode, addDecimalCall, readDeckCall, writeDeckCall};
 use decimal::Added;
 use deck::Reading;
 use deck::Writing;
@@ -167,7 +168,7 @@ pub extern "C" fn panel_add_decimal(
     length: usize,
     carry: u8,
 ) -> u64
-    ensures { λ r. ⌜ stored r (now (main .exit)) (now (local .exit)) ≡ addDecimalCall (now (main .entry)) (now (local .entry)) first second length carry ⌝ }
+    ensures { λ r. ⌜ outcome r (now (main .exit)) (now (local .exit)) ≡ addDecimalCall (now (main .entry)) (now (local .entry)) first second length carry ⌝ }
 {
     added_code(decimal::add(main, local, first, second, length, carry != 0))
 }

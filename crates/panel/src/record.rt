@@ -1,9 +1,7 @@
 // Bytes to a state and back, and to the fields of a word and back.
 ghost use mathlib.Core.Path.{_≡_};
-ghost use mathlib.Core.Bool.{not};
 ghost use Prim.Native.Nat.{_+_, _*_, _≤_};
 ghost use lib.ListN.{length};
-ghost use lib.Dec.{eqb};
 ghost use Rattle.digits.specs.Bits.{one};
 ghost use Rattle.deck.specs.Lists.{over};
 ghost use Rattle.panel.specs.Record.{saved, loaded, fieldBytes, fieldsIn};

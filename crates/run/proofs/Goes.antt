@@ -9,10 +9,11 @@ use Rattle.machine.proofs.Promises.{Kept, refusal-keeps, stop-keeps}
 use Rattle.machine.specs.declared.State.{State}
 use Rattle.machine.specs.declared.Cycled.{Cycled}
 use Rattle.machine.specs.declared.Cycled.the-variants as C
-use Rattle.run.specs.Run.{Ran, ended, onward, cyclesOf}
+use Rattle.run.specs.Run.{ended, onward, cyclesOf}
 use Rattle.run.specs.declared.Ending.{Ending}
 use Rattle.run.specs.declared.Ending.the-variants.{Stopped, Refused, Spent}
-use Rattle.run.proofs.Runs.{spent, turn}
+use Rattle.run.specs.declared.Finished.{Finished}
+use Rattle.run.proofs.Runs.{turn}
 
 -- a state with both storages
 pub record Machine : Type 0 where
@@ -98,20 +99,20 @@ one-more {store} {budget} {k} {count} {m} {y} {x} {ending} a d =
     }
 
 -- where a run stands
-abbrev pub standing : Ran → Machine
-standing r = machine (r .finished .state) (r .main) (r .local)
+abbrev pub standing : Outcome Finished → Machine
+standing r = machine (r .answer .state) (r .main) (r .local)
 
 -- the run from a machine on, after k cycles
-abbrev pub runFrom : ℕ → ℕ → List ℕ → Machine → Ran
+abbrev pub runFrom : ℕ → ℕ → List ℕ → Machine → Outcome Finished
 runFrom budget k store m = cyclesOf budget store (m .main) (m .local) (m .state) k
 
-abbrev pub DoneBy : List ℕ → ℕ → ℕ → Machine → Ran → Type 0
-DoneBy store budget k m r = Done store budget k m (r .finished .ending) (standing r) (r .finished .count)
+abbrev pub DoneBy : List ℕ → ℕ → ℕ → Machine → Outcome Finished → Type 0
+DoneBy store budget k m r = Done store budget k m (r .answer .ending) (standing r) (r .answer .count)
 
 module _ (store : List ℕ) (budget k : ℕ) (m : Machine) (main local : List ℕ) where
   -- an answer that leaves everything leaves the machine where it stood
   same-place : (t : State) (r : Cycled) → outcome r main local ≡ cycleOf store (m .main) (m .local) (m .state) → Kept (m .main) (m .local) (m .state) t (cycleOf store (m .main) (m .local) (m .state)) → machine t main local ≡ m
-  same-place t r o kept = λ i. machine (kept .state i) ((ap (λ (z : Outcome). z .main) o ∙ kept .in-main) i) ((ap (λ (z : Outcome). z .local) o ∙ kept .in-local) i)
+  same-place t r o kept = λ i. machine (kept .state i) ((ap (λ (z : Outcome Cycled). z .main) o ∙ kept .in-main) i) ((ap (λ (z : Outcome Cycled). z .local) o ∙ kept .in-local) i)
 
   again : (t : State) (r : Cycled) → outcome r main local ≡ cycleOf store (m .main) (m .local) (m .state) → machine t main local ≡ m → outcome r main local ≡ cycleOf store main local t
   again t r o e = o ∙ ap (λ (z : Machine). cycleOf store (z .main) (z .local) (z .state)) (sym e)
@@ -120,10 +121,10 @@ module _ (store : List ℕ) (budget k : ℕ) (m : Machine) (main local : List �
       → DoneBy store (suc budget) k m (onward (cyclesOf budget store) r main local k)
   one-turn (C.Ran t) o rest = one-more {y = machine t main local} o (rest (machine t main local))
   one-turn (C.Stopped t) o rest =
-      let e = same-place t (C.Stopped t) o (stop-keeps store (m .main) (m .local) (m .state) t (ap (λ (z : Outcome). z .answer) (sym o))) in
+      let e = same-place t (C.Stopped t) o (stop-keeps store (m .main) (m .local) (m .state) t (ap (λ (z : Outcome Cycled). z .answer) (sym o))) in
       at-once e (zero-lt-suc budget, again t (C.Stopped t) o e)
   one-turn (C.Refused t n f) o rest =
-      let e = same-place t (C.Refused t n f) o (refusal-keeps store (m .main) (m .local) (m .state) t n f (ap (λ (z : Outcome). z .answer) (sym o))) in
+      let e = same-place t (C.Refused t n f) o (refusal-keeps store (m .main) (m .local) (m .state) t n f (ap (λ (z : Outcome Cycled). z .answer) (sym o))) in
       at-once e (zero-lt-suc budget, again t (C.Refused t n f) o e)
 
 -- "its state and storage are those after that many": every run is that many single cycles, and its ending
@@ -131,5 +132,5 @@ pub done : (budget k : ℕ) (store : List ℕ) (m : Machine) → DoneBy store bu
 unfolding cyclesOf
 done zero k store m = at-once refl refl
 done (suc budget) k store m =
-    let o : Outcome = cycleOf store (m .main) (m .local) (m .state) in
+    let o : Outcome Cycled = cycleOf store (m .main) (m .local) (m .state) in
     one-turn store budget k m (o .main) (o .local) (o .answer) refl (done budget (k + 1) store)

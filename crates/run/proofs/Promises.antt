@@ -8,11 +8,12 @@ use lib.ListN.{length}
 use Rattle.digits.specs.Refusal.{Given}
 use Rattle.digits.proofs.Refusals.{None, none-first, given-first}
 use Rattle.digits.proofs.Sole.{sole}
+use Rattle.machine.specs.Cycle.{outcome}
 use Rattle.machine.specs.declared.State.{State}
-use Rattle.run.specs.Run.{ran, ended, cyclesOf, runChecks, runOf}
+use Rattle.run.specs.Run.{ended, cyclesOf, runChecks, runOf}
 use Rattle.run.specs.declared.Ending.the-variants.{Refused}
 use Rattle.run.specs.declared.Finished.{Finished}
-use Rattle.run.proofs.Runs.{refused-at-once, goes-on}
+use Rattle.run.proofs.Runs.{refused-at-once, begins}
 use Rattle.run.proofs.run.Reads as run
 use Rattle.run.proofs.run_by_table.Reads as run-by-table
 
@@ -24,12 +25,15 @@ module _ (budget : ℕ) (store main local : List ℕ) (s : State) where
       refused-at-once budget store main local s (suc n) (sym e) (λ z. omega arith)
 
   pub run-begins : None (runChecks (length store) (length main) (length local) budget) → cyclesOf budget store main local s 0 ≡ runOf budget store main local s
-  run-begins g = goes-on budget store main local s _ refl (none-first (runChecks (length store) (length main) (length local) budget) g)
+  run-begins g = begins budget store main local s _ refl (none-first (runChecks (length store) (length main) (length local) budget) g)
 
 -- ---- no second answer fits, nor a second storage; and the table answers as the rule does
 
-pub run-sole : (κs : _) (args : _) (r q : Finished) (x y : _) → run.Post κs args r x → run.Post κs args q y → ran r (now (x .1 .0)) (now (x .1 .1 .0)) ≡ ran q (now (y .1 .0)) (now (y .1 .1 .0))
+pub run-sole : (κs : _) (args : _) (r q : Finished) (x y : _) → run.Post κs args r x → run.Post κs args q y → outcome r (now (x .1 .0)) (now (x .1 .1 .0)) ≡ outcome q (now (y .1 .0)) (now (y .1 .1 .0))
 run-sole κs args r q x y a b = sole a b
 
-pub table-agrees : (κs : _) (args : _) (r q : Finished) (x y : _) → run.Post κs args r x → run-by-table.Post κs args q y → ran r (now (x .1 .0)) (now (x .1 .1 .0)) ≡ ran q (now (y .1 .0)) (now (y .1 .1 .0))
+pub run-by-table-sole : (κs : _) (args : _) (r q : Finished) (x y : _) → run-by-table.Post κs args r x → run-by-table.Post κs args q y → outcome r (now (x .1 .0)) (now (x .1 .1 .0)) ≡ outcome q (now (y .1 .0)) (now (y .1 .1 .0))
+run-by-table-sole κs args r q x y a b = sole a b
+
+pub table-agrees : (κs : _) (args : _) (r q : Finished) (x y : _) → run.Post κs args r x → run-by-table.Post κs args q y → outcome r (now (x .1 .0)) (now (x .1 .1 .0)) ≡ outcome q (now (y .1 .0)) (now (y .1 .1 .0))
 table-agrees κs args r q x y a b = sole a b

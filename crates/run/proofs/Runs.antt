@@ -19,7 +19,7 @@ spent store main local s n = refl
 pub turn : (budget : ℕ) (store main local : List ℕ) (s : State) (n : ℕ) (r : Cycled) (m l : List ℕ) → outcome r m l ≡ cycleOf store main local s
     → cyclesOf (suc budget) store main local s n ≡ onward (cyclesOf budget store) r m l n
 unfolding cyclesOf
-turn budget store main local s n r m l o = ap (λ (x : Outcome). onward (cyclesOf budget store) (x .answer) (x .main) (x .local) n) (sym o)
+turn budget store main local s n r m l o = ap (λ (x : Outcome Cycled). onward (cyclesOf budget store) (x .answer) (x .main) (x .local) n) (sym o)
 
 -- with d of b cycles done
 pub on-spent : (b d : ℕ) (store main local : List ℕ) (s : State) → d ≡ b → cyclesOf (b - d) store main local s d ≡ ended Spent s d main local
@@ -51,7 +51,7 @@ module _ (budget : ℕ) (store main local : List ℕ) (s : State) where
       by zero z = absurd (z refl)
       by (suc k) z = refl
 
-  pub goes-on : (n : ℕ) → n ≡ first (runChecks (length store) (length main) (length local) budget) → n ≡ 0
+  pub begins : (n : ℕ) → n ≡ first (runChecks (length store) (length main) (length local) budget) → n ≡ 0
       → cyclesOf budget store main local s 0 ≡ runOf budget store main local s
   unfolding runOf
-  goes-on n e z = ap (λ (k : ℕ). runBy k budget store main local s) (sym z ∙ e)
+  begins n e z = ap (λ (k : ℕ). runBy k budget store main local s) (sym z ∙ e)

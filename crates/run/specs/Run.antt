@@ -4,7 +4,8 @@ use mathlib.Core.List.{List, [], _∷_}
 use lib.Dec.{ltb}
 use lib.ListN.{length}
 use Rattle.digits.specs.Refusal.{Check, first}
-use Rattle.machine.specs.Cycle.{Outcome, cycleOf, sizesWrong}
+use Rattle.digits.specs.Sizes.{sizesWrong}
+use Rattle.machine.specs.Cycle.{Outcome, outcome, cycleOf}
 use Rattle.machine.specs.declared.State.{State}
 use Rattle.machine.specs.declared.Cycled.{Cycled}
 use Rattle.machine.specs.declared.Cycled.the-variants as C
@@ -12,39 +13,30 @@ use Rattle.run.specs.declared.Ending.{Ending}
 use Rattle.run.specs.declared.Ending.the-variants.{Stopped, Refused, Spent}
 use Rattle.run.specs.declared.Finished.{Finished}
 
--- how a run ended, and both storages as they then are
-pub record Ran : Type 0 where
-  pub finished : Finished
-  pub main : List ℕ
-  pub local : List ℕ
-
-abbrev pub ran : Finished → List ℕ → List ℕ → Ran
-ran finished main local = record { finished = finished; main = main; local = local }
-
 -- "Its answer is stopped, refused with the number (and 10's field), or budget spent."
-abbrev pub ended : Ending → State → ℕ → List ℕ → List ℕ → Ran
-ended ending state count main local = ran (record { ending = ending; state = state; count = count }) main local
+abbrev pub ended : Ending → State → ℕ → List ℕ → List ℕ → Outcome Finished
+ended ending state count main local = outcome (record { ending = ending; state = state; count = count }) main local
 
 -- after a cycle with n cycles done before it; `rest` is what is left of the run
-abbrev pub onward : (List ℕ → List ℕ → State → ℕ → Ran) → Cycled → List ℕ → List ℕ → ℕ → Ran
+abbrev pub onward : (List ℕ → List ℕ → State → ℕ → Outcome Finished) → Cycled → List ℕ → List ℕ → ℕ → Outcome Finished
 onward rest (C.Ran t) main local n = rest main local t (n + 1)
 onward rest (C.Stopped t) main local n = ended Stopped t n main local
 onward rest (C.Refused t number field) main local n = ended (Refused number field) t n main local
 
 -- "Once that many cycles have run the answer is budget spent, even before a word that would stop or be refused; so budget 0 runs none."
-unfoldable pub cyclesOf : ℕ → List ℕ → List ℕ → List ℕ → State → ℕ → Ran
+unfoldable pub cyclesOf : ℕ → List ℕ → List ℕ → List ℕ → State → ℕ → Outcome Finished
 cyclesOf zero store main local s n = ended Spent s n main local
 cyclesOf (suc budget) store main local s n =
-    let o : Outcome = cycleOf store main local s in
+    let o : Outcome Cycled = cycleOf store main local s in
     onward (cyclesOf budget store) (o .answer) (o .main) (o .local) n
 
 -- 1, then 22: "budget over 1,000,000"
 abbrev pub runChecks : ℕ → ℕ → ℕ → ℕ → List Check
 runChecks store main local budget = (1, sizesWrong store main local) ∷ (22, ltb 1000000 budget) ∷ []
 
-abbrev pub runBy : ℕ → ℕ → List ℕ → List ℕ → List ℕ → State → Ran
+abbrev pub runBy : ℕ → ℕ → List ℕ → List ℕ → List ℕ → State → Outcome Finished
 runBy (suc number) budget store main local s = ended (Refused (suc number) 0) s 0 main local
 runBy zero budget store main local s = cyclesOf budget store main local s 0
 
-unfoldable pub runOf : ℕ → List ℕ → List ℕ → List ℕ → State → Ran
+unfoldable pub runOf : ℕ → List ℕ → List ℕ → List ℕ → State → Outcome Finished
 runOf budget store main local s = runBy (first (runChecks (length store) (length main) (length local) budget)) budget store main local s

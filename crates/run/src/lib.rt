@@ -1,7 +1,6 @@
 // A run: cycles until stop, refusal or budget.
 ghost use mathlib.Core.Path.{_≡_};
-ghost use Prim.Native.Nat.{_≤_};
-ghost use Rattle.run.specs.Run.{ran, cyclesOf, runOf};
+ghost use Rattle.run.specs.Run.{cyclesOf, runOf};
 ghost use Rattle.machine.specs.Cycle.{outcome, cycleOf};
 use machine::Cycled;
 use machine::State;
@@ -47,7 +46,7 @@ fn cycles(
     state: State,
     budget: u32,
 ) -> Finished
-    ensures { λ r. ⌜ ran r (now (main .exit)) (now (local .exit)) ≡ cyclesOf budget (now (store .entry)) (now (main .entry)) (now (local .entry)) state 0 ⌝ }
+    ensures { λ r. ⌜ outcome r (now (main .exit)) (now (local .exit)) ≡ cyclesOf budget (now (store .entry)) (now (main .entry)) (now (local .entry)) state 0 ⌝ }
 {
     let mut now = state;
     let mut done: u32 = 0;
@@ -78,9 +77,9 @@ fn run_with(
     state: State,
     budget: u32,
 ) -> Finished
-    ensures { λ r. ⌜ ran r (now (main .exit)) (now (local .exit)) ≡ runOf budget (now (store .entry)) (now (main .entry)) (now (local .entry)) state ⌝ }
+    ensures { λ r. ⌜ outcome r (now (main .exit)) (now (local .exit)) ≡ runOf budget (now (store .entry)) (now (main .entry)) (now (local .entry)) state ⌝ }
 {
-    let wrong = machine::sizes_wrong(store.len(), main.len(), local.len());
+    let wrong = digits::sizes_wrong(store.len(), main.len(), local.len());
     let number = digits::first_of(wrong, 1, digits::first_of(1000000 < budget, 22, 0));
     if number != 0 {
         return ended(Ending::Refused(number, 0), state, 0);
@@ -90,7 +89,7 @@ fn run_with(
 
 // A run, its sums corrected by the digit rules.
 pub fn run(store: &[u64], main: &mut [u8], local: &mut [u8], state: State, budget: u32) -> Finished
-    ensures { λ r. ⌜ ran r (now (main .exit)) (now (local .exit)) ≡ runOf budget (now (store .entry)) (now (main .entry)) (now (local .entry)) state ⌝ }
+    ensures { λ r. ⌜ outcome r (now (main .exit)) (now (local .exit)) ≡ runOf budget (now (store .entry)) (now (main .entry)) (now (local .entry)) state ⌝ }
 {
     run_with(false, store, main, local, state, budget)
 }
@@ -103,7 +102,7 @@ pub fn run_by_table(
     state: State,
     budget: u32,
 ) -> Finished
-    ensures { λ r. ⌜ ran r (now (main .exit)) (now (local .exit)) ≡ runOf budget (now (store .entry)) (now (main .entry)) (now (local .entry)) state ⌝ }
+    ensures { λ r. ⌜ outcome r (now (main .exit)) (now (local .exit)) ≡ runOf budget (now (store .entry)) (now (main .entry)) (now (local .entry)) state ⌝ }
 {
     run_with(true, store, main, local, state, budget)
 }

@@ -2,18 +2,15 @@
 use Prim.Native.Nat.{ℕ, suc, _%_}
 use mathlib.Core.Path.{_≡_, ap}
 use mathlib.Core.List.{List, [], _∷_, _++_}
-use mathlib.Core.Bool.{Bool, false, _||_}
+use mathlib.Core.Bool.{Bool}
 use lib.Bits.{bitAnd}
 use lib.Count.{ones}
 use lib.Dec.{eqb}
 use Rattle.digits.specs.Line.{onesOf}
+use Rattle.digits.specs.Table.{among}
 use Rattle.digits.proofs.Lines.{ones-mask}
 use Rattle.word.specs.Layout.{widths, lineOf, PN, PA, CA, AA, CK, PK, PS, PC}
 use Rattle.word.specs.Parity.{values, covered, pnCovers, psCovers, pcCovers}
-
-abbrev among : ℕ → List ℕ → Bool
-among place [] = false
-among place (p ∷ ps) = eqb place p || among place ps
 
 -- for each place from the given one on, whether it is among some places
 abbrev marksFrom : ℕ → List ℕ → List ℕ → List Bool

@@ -2,11 +2,11 @@
 use Prim.Native.Nat.{ℕ, suc}
 use mathlib.Core.Path.{_≡_}
 use mathlib.Core.Logic.{_↔_}
-use native.Mathlib.Omega.{arith}
 use Rattle.digits.specs.Line.{join}
 use Rattle.digits.specs.Refusal.{Given}
 use Rattle.digits.proofs.Refusals.{exactly, given-first, first-given}
 use Rattle.digits.proofs.Sole.{sole}
+use Rattle.digits.proofs.Truth.{zero-one}
 use Rattle.word.specs.Layout.{widths, lineOf, named}
 use Rattle.word.specs.Word.{faultChecks, faultOf, apartChecks, takenApart, packChecks, lineWith, packed}
 use Rattle.word.specs.declared.Fields.{Fields}
@@ -27,13 +27,13 @@ fault-exactly w a n = (first-given (faultChecks w a (lineOf w)) n, given-first (
 pub apart-exactly : (w a n : ℕ) → (takenApart w a ≡ A.Refused n) ↔ Given n (apartChecks w a (lineOf w))
 unfolding takenApart
 apart-exactly w a =
-    exactly A.Refused (A.Fields (named (lineOf w))) (λ m n e. cc) (λ n e. let z : _≡_ {A = ℕ} 0 1 = cc in omega arith) (apartChecks w a (lineOf w)) tt
+    exactly A.Refused (A.Fields (named (lineOf w))) (λ m n e. cc) (λ n e. zero-one cc) (apartChecks w a (lineOf w)) tt
 
 -- 20, 8, 9, of `pack`
 pub pack-exactly : (f : Fields) (a n : ℕ) → (packed f a ≡ P.Refused n) ↔ Given n (packChecks f a)
 unfolding packed
 pack-exactly f a =
-    exactly P.Refused (P.Word (join widths (lineWith f a))) (λ m n e. cc) (λ n e. let z : _≡_ {A = ℕ} 0 1 = cc in omega arith) (packChecks f a) tt
+    exactly P.Refused (P.Word (join widths (lineWith f a))) (λ m n e. cc) (λ n e. zero-one cc) (packChecks f a) tt
 
 -- ---- no second answer fits: two results that meet one contract at the same arguments are the same
 

@@ -1,8 +1,8 @@
 -- "Taken apart and packed again, a word is the same word, and fields the same fields." Assumes nothing.
 use Prim.Native.Nat.{ℕ, _^_, _<_, _≤_}
-use mathlib.Core.Path.{_≡_, refl, sym, ap, subst, _∙_}
+use mathlib.Core.Path.{_≡_, sym, ap, subst, _∙_}
 use mathlib.Core.List.{List}
-use mathlib.Core.Bool.{Bool, true, false, not, _||_}
+use mathlib.Core.Bool.{true, not}
 use native.Mathlib.Omega.{arith}
 use native.Mathlib.Nat.{mod-eq-of-lt}
 use borrow.Author.Tests.{le-ltb, lt-leb, leb-false, not-false}
@@ -10,6 +10,7 @@ use Rattle.digits.specs.Line.{parts, join}
 use Rattle.digits.specs.Refusal.{first, answer}
 use Rattle.digits.proofs.Lines.{Fit, join-parts, parts-join, join-lt, fit-true, true-fit, parts-fit}
 use Rattle.digits.proofs.Refusals.{None, none-first, given-none, given-number}
+use Rattle.digits.proofs.Truth.{zero-one, neither}
 use Rattle.word.specs.Layout.{widths, lineOf, field, fieldsOf, line, PN, PA, PS, PC}
 use Rattle.word.specs.Parity.{oddBit, values, pnCovers, paCovers, psCovers, pcCovers}
 use Rattle.word.specs.Word.{kChecks, faultChecks, faultOf, farAddress, apartChecks, judged, takenApart, inWidth, packChecks, lineWith, packed}
@@ -43,7 +44,7 @@ width-back w =
 good : (w a : ℕ) (f : Fields) → takenApart w a ≡ A.Fields f → None (apartChecks w a (lineOf w)) × (fieldsOf w ≡ f)
 unfolding takenApart
 good w a f e =
-    let g = given-none A.Refused (A.Fields (fieldsOf w)) (A.Fields f) (λ n r. let z : _≡_ {A = ℕ} 0 1 = cc in omega arith) (apartChecks w a (lineOf w)) tt e in
+    let g = given-none A.Refused (A.Fields (fieldsOf w)) (A.Fields f) (λ n r. zero-one cc) (apartChecks w a (lineOf w)) tt e in
     let same : A.Fields (fieldsOf w) ≡ A.Fields f = g .1 in
     (g .0, cc)
 
@@ -58,23 +59,15 @@ apart-fields w a f e =
 pub apart-refused : (w a n : ℕ) → a ≤ 4095 → takenApart w a ≡ A.Refused n → (faultOf w a ≡ n) × (faultOf w a ≡ 0 → ⊥)
 unfolding takenApart faultOf
 apart-refused w a n h e =
-    given-number A.Refused (A.Fields (fieldsOf w)) (λ k m q. cc) (λ m q. let z : _≡_ {A = ℕ} 0 1 = cc in omega arith) (first (faultChecks w a (lineOf w))) n
+    given-number A.Refused (A.Fields (fieldsOf w)) (λ k m q. cc) (λ m q. zero-one cc) (first (faultChecks w a (lineOf w))) n
     (rw (le-ltb 4095 a h) at e)
 
 sound : (f : Fields) (a w : ℕ) → packed f a ≡ P.Word w → None (packChecks f a) × (join widths (lineWith f a) ≡ w)
 unfolding packed
 sound f a w e =
-    let g = given-none P.Refused (P.Word (join widths (lineWith f a))) (P.Word w) (λ n r. let z : _≡_ {A = ℕ} 0 1 = cc in omega arith) (packChecks f a) tt e in
+    let g = given-none P.Refused (P.Word (join widths (lineWith f a))) (P.Word w) (λ n r. zero-one cc) (packChecks f a) tt e in
     let same : P.Word (join widths (lineWith f a)) ≡ P.Word w = g .1 in
     (g .0, cc)
-
-or-left : (a b : Bool) → a || b ≡ false → a ≡ false
-or-left true b h = h
-or-left false b h = refl
-
-pub or-right : (a b : Bool) → a || b ≡ false → b ≡ false
-or-right true b h = let z : _≡_ {A = ℕ} 0 1 = cc in absurd (omega arith)
-or-right false b h = h
 
 -- ---- the two trips
 
@@ -105,8 +98,8 @@ packed-apart f a w e =
     let (checks, same) = sound f a w e in
     let (twenty, k) = checks in
     let bare : List ℕ = line f 0 0 0 0 in
-    let far = or-left (farAddress a) (not (inWidth f)) twenty in
-    let width = not-false (inWidth f) (or-right (farAddress a) (not (inWidth f)) twenty) in
+    let (far, fits) = neither (farAddress a) (not (inWidth f)) twenty in
+    let width = not-false (inWidth f) fits in
     let fits = fit-with f a width in
     let back : lineOf w ≡ lineWith f a = ap (parts widths) (sym same) ∙ parts-join widths (lineWith f a) fits in
     let small : w < 2 ^ 55 = subst (λ (x : ℕ). x < 2 ^ 55) same (join-lt widths (lineWith f a) fits) in

@@ -1,7 +1,6 @@
 // The microword: its fields, its parity, and the refusals 20 and 3 to 9.
 ghost use mathlib.Core.Path.{_≡_};
 ghost use Prim.Native.Nat.{_+_, _-_, _*_, _%_, _^_, _<_};
-ghost use mathlib.Core.List.{[], _∷_};
 ghost use lib.Bits.{bitAnd};
 ghost use lib.Count.{ones};
 ghost use lib.Dec.{eqb};

@@ -1,4 +1,4 @@
-//! Every name that docs/TRACE.md cites is in the tree.
+//! Every name that docs/TRACE.md, docs/PROMISES.md and docs/NEXT.md cite is declared in the tree, and every must-fail edit is cited.
 
 use std::fs;
 use std::path::{Path, PathBuf};
@@ -24,14 +24,30 @@ fn text_below(folder: &Path) -> String {
     text
 }
 
-/// The name stands by itself, not inside a longer one.
-fn has_name(text: &str, name: &str) -> bool {
-    let part = |c: char| c.is_alphanumeric() || c == '_' || c == '-';
-    text.match_indices(name).any(|(at, _)| {
-        let before = text[..at].chars().next_back();
-        let after = text[at + name.len()..].chars().next();
-        !before.is_some_and(part) && !after.is_some_and(part)
-    })
+/// The line declares the name: a definition, a theorem or a field of antt's, or an item of Rattle's.
+fn declares(line: &str, name: &str) -> bool {
+    let mut rest = line.trim_start();
+    for word in [
+        "abbrev ",
+        "unfoldable ",
+        "pub(crate) ",
+        "pub ",
+        "extern \"C\" ",
+        "record ",
+        "data ",
+        "struct ",
+        "enum ",
+        "const ",
+        "fn ",
+    ] {
+        rest = rest.strip_prefix(word).unwrap_or(rest);
+    }
+    let Some(after) = rest.strip_prefix(name) else {
+        return false;
+    };
+    let part = |c: char| c.is_alphanumeric() || c == '_' || c == '-' || c == '′';
+    let at_end = !after.starts_with(part);
+    at_end && (rest.len() < line.trim_start().len() || after.starts_with(" :"))
 }
 
 /// A citation is `crate:name`, `crate:must-fail/label` or `second:test`.
@@ -43,23 +59,63 @@ fn is_there(citation: &str) -> bool {
         return root().join(format!("crates/{home}/must-fail/{label}.edit")).exists();
     }
     if home == "second" {
-        return has_name(&text_below(&root().join("tests/second/tests")), name);
+        return declared_below("tests/second/tests", name);
     }
-    ["specs", "src", "proofs"]
-        .iter()
-        .any(|part| has_name(&text_below(&root().join(format!("crates/{home}/{part}"))), name))
+    ["specs", "src", "proofs"].iter().any(|part| declared_below(&format!("crates/{home}/{part}"), name))
+}
+
+fn declared_below(folder: &str, name: &str) -> bool {
+    text_below(&root().join(folder)).lines().any(|line| declares(line, name))
+}
+
+/// What stands between backquotes and is a citation, and not the form of one.
+fn cited(text: &str) -> Vec<&str> {
+    let forms = ["crate:name", "crate:must-fail/label", "second:name"];
+    let is_name = |c: &str| !c.contains(' ') && c.contains(':') && !c.contains("::") && !forms.contains(&c);
+    text.split('`').skip(1).step_by(2).filter(|c| is_name(c)).collect()
+}
+
+fn holds(document: &str, at_least: usize) {
+    let text = fs::read_to_string(root().join("docs").join(document)).expect(document);
+    let cited = cited(&text);
+    assert!(cited.len() > at_least, "{document} cites only {} names", cited.len());
+    let missing: Vec<&str> = cited.into_iter().filter(|c| !is_there(c)).collect();
+    assert!(missing.is_empty(), "{document}: not in the tree: {missing:?}");
 }
 
 #[test]
-fn every_cited_name_exists() {
-    let trace = fs::read_to_string(root().join("docs/TRACE.md")).expect("docs/TRACE.md");
-    let cited: Vec<&str> = trace
-        .split('`')
-        .skip(1)
-        .step_by(2)
-        .filter(|c| c.contains(':') && !c.starts_with("crate:") && *c != "second:name")
-        .collect();
-    assert!(cited.len() > 100, "TRACE cites only {} names", cited.len());
-    let missing: Vec<&str> = cited.into_iter().filter(|c| !is_there(c)).collect();
-    assert!(missing.is_empty(), "not in the tree: {missing:?}");
+fn every_name_that_trace_cites_is_declared() {
+    holds("TRACE.md", 200);
+}
+
+#[test]
+fn every_name_that_promises_cites_is_declared() {
+    holds("PROMISES.md", 100);
+}
+
+#[test]
+fn every_name_that_next_cites_is_declared() {
+    holds("NEXT.md", 100);
+}
+
+/// The edits that no document cites: each is to be laid beside what it tries.
+#[test]
+fn every_must_fail_edit_is_cited() {
+    let trace = fs::read_to_string(root().join("docs/TRACE.md")).expect("TRACE.md");
+    let promises = fs::read_to_string(root().join("docs/PROMISES.md")).expect("PROMISES.md");
+    let crates = fs::read_dir(root().join("crates")).expect("crates");
+    let mut lost = Vec::new();
+    for home in crates.flatten() {
+        let Ok(edits) = fs::read_dir(home.path().join("must-fail")) else {
+            continue;
+        };
+        for edit in edits.flatten() {
+            let label = edit.path().file_stem().expect("a label").to_string_lossy().into_owned();
+            let citation = format!("`{}:must-fail/{label}`", home.file_name().to_string_lossy());
+            if !trace.contains(&citation) && !promises.contains(&citation) {
+                lost.push(citation);
+            }
+        }
+    }
+    assert!(lost.is_empty(), "cited nowhere: {lost:?}");
 }

@@ -3,7 +3,7 @@ use mathlib.Core.Path.{sym, _∙_}
 use native.Mathlib.Omega.{arith}
 use denote.Ref.{now}
 use lib.ListN.{length}
-use Rattle.decimal.proofs.Kept.{Fit, checked, refuses, accepts, both}
+use Rattle.decimal.proofs.Kept.{Fit, checked, refuses, accepts, with-promise}
 use borrow.Author.Needs.{needs}
 use Rattle.decimal.proofs.add.Statement.{statement}
 use Rattle.decimal.proofs.add.Tie as tie
@@ -16,7 +16,7 @@ fit c =
 returns : tie.Need-returns
 returns c =
     let a = c .before .before .before .before .args in
-    both (now (a .main)) (now (a .local)) (a .first) (a .second) (a .length) (a .carry) _ (now (a .main)) (now (a .local))
+    with-promise (now (a .main)) (now (a .local)) (a .first) (a .second) (a .length) (a .carry) _ (now (a .main)) (now (a .local))
     (refuses (now (a .main)) (now (a .local)) (a .first) (a .second) (a .length) (a .carry) (c .before .refusal .result) (c .before .refusal .ensures) (c .if1 .taken))
 
 cast-run-words : tie.Need-cast-run-words
@@ -34,7 +34,7 @@ run-words-requires c κs = fit c .few
 returns-2 : tie.Need-returns-2
 returns-2 c =
     let a = c .before .before .before .before .before .before .before .before .before .before .before .args in
-    both (now (a .main)) (now (a .local)) (a .first) (a .second) (a .length) (a .carry) _ _ _
+    with-promise (now (a .main)) (now (a .local)) (a .first) (a .second) (a .length) (a .carry) _ _ _
     (c .before .before .before .before .run-words .ensures
     ∙ accepts (now (a .main)) (now (a .local)) (a .first) (a .second) (a .length) (a .carry) (sym (c .before .before .before .before .before .before .before .before .refusal .ensures) ∙ c .before .before .before .before .before .before .before .if1 .left))
 

@@ -11,7 +11,7 @@ use Rattle.decimal.proofs.run_words.Tie as tie
 returns : tie.Need-returns
 returns c =
     let a = c .before .before .before .before .before .before .before .before .before .before .before .before .before .args in
-    from-run (c .before .before .before .before .before .run .result) _ _ _ (c .answered .ensures)
+    from-run (c .before .before .before .before .before .run .result) _ _ _ (c .answered-at .ensures)
     (c .before .before .before .before .before .run .ensures
     ∙ (λ i. runOf (bound (a .length)) (c .before .before .before .before .before .before .before .before .before .before .words .ensures i) (now (a .main)) (now (a .local)) (c .before .before .before .before .before .before .start .ensures i)))
 

@@ -6,14 +6,14 @@ use native.Mathlib.Omega.{arith}
 use lib.ListN.{length, take, drop, length-take}
 use lib.Seq.{getD-take, length-take-le}
 use borrow.Author.Needs.{needs}
-use Rattle.deck.specs.Lists.{sumOf}
+use Rattle.digits.specs.Line.{total}
 use Rattle.deck.specs.Deck.{checkOf}
 use Rattle.deck.proofs.Walks.{sum-step, sum-end}
 use Rattle.deck.proofs.block_check.Statement.{statement}
 use Rattle.deck.proofs.block_check.Tie as tie
 
 abbrev Inv-loop : tie.InvT-loop
-Inv-loop gs sum₀ place₀ sum place = (place ≤ 63) × (sum < 2 ^ 64) × ((sum + sumOf (drop place (take 63 gs))) % 2 ^ 64 ≡ checkOf gs)
+Inv-loop gs sum₀ place₀ sum place = (place ≤ 63) × (sum < 2 ^ 64) × ((sum + total (drop place (take 63 gs))) % 2 ^ 64 ≡ checkOf gs)
 
 abbrev μ-loop : tie.MeasureT-loop
 μ-loop gs sum₀ place₀ sum place = 63 - place

@@ -1,6 +1,6 @@
 -- A line of spaces, with the digits of both numbers and the line feed put in. Assumes nothing.
 use borrow.Author.Needs.{needs}
-use Rattle.listing.specs.Listing.{lineOf}
+use Rattle.listing.specs.Listing.{textLine}
 use Rattle.listing.proofs.line.Statement.{statement}
 use Rattle.listing.proofs.line.Tie as tie
 
@@ -8,7 +8,7 @@ part-text-end-2 : tie.Need-part-text-end-2
 part-text-end-2 c = rw (c .before .put-hexadecimal .ensures) (search needs)
 
 returns : tie.Need-returns
-unfolding lineOf
+unfolding textLine
 returns c =
     let address = c .before .before .before .before .put-hexadecimal .ensures in
     rw (address, rw address at (c .before .put-hexadecimal2 .ensures))

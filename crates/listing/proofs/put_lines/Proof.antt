@@ -6,7 +6,7 @@ use native.Mathlib.Omega.{arith}
 use lib.ListN.{length, getD, take, drop, length-take, length-drop}
 use borrow.Author.Needs.{needs}
 use Rattle.deck.proofs.Walks.{over-full, Put, put-none, put-turn, put-all}
-use Rattle.listing.specs.Listing.{lineOf, linesOf}
+use Rattle.listing.specs.Listing.{textLine, linesOf}
 use Rattle.listing.proofs.Texts.{length-line, length-lines, restOf, rest-step, rest-end}
 use Rattle.listing.proofs.put_lines.Statement.{statement}
 use Rattle.listing.proofs.put_lines.Tie as tie
@@ -27,7 +27,7 @@ loop-again c =
     let l = c .before .before .before .before .before .before .before .before .loop in
     let ws = s .args .words .now in
     let at = 19 * l .i in
-    let new = lineOf (l .i) (getD ws (l .i) 0) in
+    let new = textLine (l .i) (getD ws (l .i) 0) in
     let k : at + 19 - at ≡ 19 = add-sub-cancel-left at 19 in
     let next : 19 * (l .i + 1) ≡ at + 19 = omega arith in
     let x = c .before .before .copy .last .1 .0 in

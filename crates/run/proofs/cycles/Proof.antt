@@ -5,7 +5,8 @@ use native.Mathlib.Nat.{sub-zero}
 use native.Mathlib.Omega.{arith}
 use borrow.Author.Needs.{needs}
 use lib.ListN.{length}
-use Rattle.run.specs.Run.{ran, cyclesOf}
+use Rattle.machine.specs.Cycle.{outcome}
+use Rattle.run.specs.Run.{cyclesOf}
 use Rattle.run.specs.declared.Finished.{Finished}
 use Rattle.run.proofs.Runs.{on-spent, on-ran, on-stopped, on-refused}
 use Rattle.run.proofs.cycles.Statement.{statement}
@@ -34,14 +35,14 @@ loop-again c =
     )
 
 returns : tie.Need-returns Inv-loop μ-loop
-returns c = ap (λ (f : Finished). ran f (c .before .before .loop .main) (c .before .before .loop .local)) (c .ended .ensures) ∙ sym (on-spent _ _ _ _ _ _ (c .before .if1 .taken)) ∙ c .before .before .loop .inv .3
+returns c = ap (λ (f : Finished). outcome f (c .before .before .loop .main) (c .before .before .loop .local)) (c .ended .ensures) ∙ sym (on-spent _ _ _ _ _ _ (c .before .if1 .taken)) ∙ c .before .before .loop .inv .3
 
 returns-2 : tie.Need-returns-2 Inv-loop μ-loop
 returns-2 c =
     let at = c .before .before .before .before .before .before .before .before .before .before .before .before .loop in
     let one = c .before .before .before .before .before .before .before .before .one in
     let less = c .before .before .before .before .before .before .before .before .before .before .before .if1 .left in
-    ap (λ (f : Finished). ran f (one .last .1 .1 .0) (one .last .1 .1 .1 .0)) (c .ended2 .ensures)
+    ap (λ (f : Finished). outcome f (one .last .1 .1 .0) (one .last .1 .1 .1 .0)) (c .ended2 .ensures)
     ∙ sym (on-stopped _ _ _ _ _ _ _ _ _ (omega (arith, less)) (one .ensures) _ (c .before .before .last .given .1)) ∙ at .inv .3
 
 returns-3 : tie.Need-returns-3 Inv-loop μ-loop
@@ -49,7 +50,7 @@ returns-3 c =
     let at = c .before .before .before .before .before .before .before .before .before .before .before .before .loop in
     let one = c .before .before .before .before .before .before .before .before .one in
     let less = c .before .before .before .before .before .before .before .before .before .before .before .if1 .left in
-    ap (λ (f : Finished). ran f (one .last .1 .1 .0) (one .last .1 .1 .1 .0)) (c .ended3 .ensures)
+    ap (λ (f : Finished). outcome f (one .last .1 .1 .0) (one .last .1 .1 .1 .0)) (c .ended3 .ensures)
     ∙ sym (on-refused _ _ _ _ _ _ _ _ _ (omega (arith, less)) (one .ensures) _ _ _ (c .before .before .last2 .given .1)) ∙ at .inv .3
 
 pub cycles-spec : {M : Type 1} → statement M

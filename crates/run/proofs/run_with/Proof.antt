@@ -2,16 +2,16 @@
 use mathlib.Core.Path.{ap, _∙_}
 use borrow.Author.Needs.{needs}
 use denote.Ref.{now}
-use Rattle.run.specs.Run.{ran}
+use Rattle.machine.specs.Cycle.{outcome}
 use Rattle.run.specs.declared.Finished.{Finished}
-use Rattle.run.proofs.Runs.{refused-at-once, goes-on}
+use Rattle.run.proofs.Runs.{refused-at-once, begins}
 use Rattle.run.proofs.run_with.Statement.{statement}
 use Rattle.run.proofs.run_with.Tie as tie
 
 returns : tie.Need-returns
 returns c =
     let a = c .before .before .before .before .before .before .before .before .args in
-    ap (λ (f : Finished). ran f (now (a .main)) (now (a .local))) (c .ended .ensures)
+    ap (λ (f : Finished). outcome f (now (a .main)) (now (a .local))) (c .ended .ensures)
     ∙ refused-at-once (a .budget) (now (a .store)) (now (a .main)) (now (a .local)) (a .state) _
     (rw (c .before .before .first-of2 .ensures, c .before .before .before .first-of .ensures, c .before .before .before .before .sizes-wrong .ensures)) (c .before .if1 .taken)
 
@@ -19,7 +19,7 @@ returns-2 : tie.Need-returns-2
 returns-2 c =
     let a = c .before .before .before .before .before .before .before .before .before .before .before .before .before .before .args in
     c .before .before .before .before .cycles .ensures
-    ∙ goes-on (a .budget) (now (a .store)) (now (a .main)) (now (a .local)) (a .state) _
+    ∙ begins (a .budget) (now (a .store)) (now (a .main)) (now (a .local)) (a .state) _
     (rw (c .before .before .before .before .before .before .before .before .first-of2 .ensures, c .before .before .before .before .before .before .before .before .before .first-of .ensures, c .before .before .before .before .before .before .before .before .before .before .sizes-wrong .ensures)) (c .before .before .before .before .before .before .before .if1 .left)
 
 pub run-with-spec : {M : Type 1} → statement M

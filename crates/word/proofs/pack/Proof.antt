@@ -9,18 +9,19 @@ use Rattle.digits.specs.Line.{join}
 use Rattle.digits.specs.Refusal.{first}
 use Rattle.digits.proofs.Lines.{join-lt}
 use Rattle.digits.proofs.Refusals.{refuses, accepts}
+use Rattle.digits.proofs.Truth.{neither}
 use Rattle.word.specs.Layout.{widths, lineOf, line}
 use Rattle.word.specs.Word.{packed, inWidth, kChecks, farAddress}
 use Rattle.word.specs.declared.Fields.{Fields}
 use Rattle.word.specs.declared.Packed.the-variants as P
 use Rattle.word.proofs.Sums.{line-is, word-is}
-use Rattle.word.proofs.Trips.{or-right, fit-line}
+use Rattle.word.proofs.Trips.{fit-line}
 use Rattle.word.proofs.pack.Statement.{statement}
 use Rattle.word.proofs.pack.Tie as tie
 
 -- past 20 every field is in its width
 width-of : (a : ℕ) (f : Fields) (fits : Bool) → fits ≡ inWidth f → farAddress a || not fits ≡ false → inWidth f ≡ true
-width-of a f fits e h = sym e ∙ not-false fits (or-right (farAddress a) (not fits) h)
+width-of a f fits e h = sym e ∙ not-false fits (neither (farAddress a) (not fits) h .1)
 
 -- 8 and 9 do not see the four parity bits
 k-same : (f : Fields) (n : ℕ) → inWidth f ≡ true → n ≡ join widths (line f 0 0 0 0) → first (kChecks (lineOf n)) ≡ first (kChecks (line f 0 0 0 0))

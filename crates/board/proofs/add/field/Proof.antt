@@ -1,7 +1,6 @@
 -- Byte by byte. Assumes nothing.
 use Prim.Native.Nat.{_≤_, _-_}
 use native.Mathlib.Omega.{arith}
-use lib.ListN.{length}
 use Rattle.board.proofs.add.field.Statement.{statement}
 use Rattle.board.proofs.add.field.Tie as tie
 

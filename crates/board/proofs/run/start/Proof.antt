@@ -1,6 +1,5 @@
 -- Argument by argument. Assumes nothing.
 use Prim.Native.Nat.{_-_}
-use native.Mathlib.Omega.{arith}
 use borrow.Author.Needs.{needs}
 use Rattle.board.proofs.run.start.Statement.{statement}
 use Rattle.board.proofs.run.start.Tie as tie

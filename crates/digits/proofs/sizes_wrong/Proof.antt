@@ -1,6 +1,6 @@
 -- The sizes of all three. Assumes nothing.
-use Rattle.machine.proofs.sizes_wrong.Statement.{statement}
-use Rattle.machine.proofs.sizes_wrong.Tie as tie
+use Rattle.digits.proofs.sizes_wrong.Statement.{statement}
+use Rattle.digits.proofs.sizes_wrong.Tie as tie
 
 returns : tie.Need-returns
 returns c = rw (c .storage-wrong .ensures)
