@@ -3,8 +3,9 @@ use Prim.Native.Nat.{ℕ, zero, suc, _+_, _*_, _/_, _%_, _^_, _<_}
 use mathlib.Core.Path.{_≡_, refl, sym, ap, _∙_}
 use mathlib.Core.List.{List}
 use mathlib.Core.Bool.{Bool, true}
-use native.Mathlib.Nat.{add-zero, pow-suc, add-mul-div-left, add-mul-mod-self-left, div-eq-of-lt, mod-eq-of-lt}
+use native.Mathlib.Nat.{add-zero, pow-suc, mul-comm}
 use native.Mathlib.Omega.{arith}
+use lib.Arith.{digits-div, digits-mod}
 use lib.ListN.{getD}
 use Rattle.digits.specs.Bits.{one}
 use Rattle.digits.specs.Digits.{bothDecimal}
@@ -38,11 +39,11 @@ value-lt main a (suc n) s =
 
 -- a value and a carry above it
 module _ (v p sum : ℕ) (k : Bool) (h : v < p) (e : v + p * one k ≡ sum) where
+  parts : one k * p + v ≡ sum
+  parts = omega (arith, mul-comm p (one k))
+
   pub remainder : v ≡ sum % p
-  remainder = sym (mod-eq-of-lt h) ∙ sym (add-mul-mod-self-left v p (one k)) ∙ ap (λ (n : ℕ). n % p) e
+  remainder = sym (digits-mod (one k) h) ∙ ap (λ (n : ℕ). n % p) parts
 
   pub quotient : one k ≡ sum / p
-  quotient =
-      let z : v / p ≡ 0 = div-eq-of-lt h in
-      let q : (v + p * one k) / p ≡ v / p + one k = add-mul-div-left v (one k) (omega arith) in
-      omega (arith, z, q, ap (λ (n : ℕ). n / p) e)
+  quotient = sym (digits-div (one k) h) ∙ ap (λ (n : ℕ). n / p) parts

@@ -15,7 +15,6 @@ use Rattle.digits.proofs.Refusals.{first-none, exactly}
 use Rattle.digits.proofs.Refusals as R
 use Rattle.digits.proofs.Sizes.{right-storage}
 use Rattle.digits.proofs.Truth.{zero-one, both, neither}
-use Rattle.digits.specs.Sizes.{storageWrong, sizesWrong}
 use Rattle.machine.specs.Cycle.{Outcome, outcome}
 use Rattle.run.specs.Run.{ended}
 use Rattle.run.specs.declared.Finished.{Finished}
@@ -31,17 +30,7 @@ use Rattle.decimal.proofs.Steps.{idle, Halts, run-stops}
 use Rattle.decimal.proofs.Pairs.{s0-kept}
 use Rattle.decimal.proofs.Fields.{sound-field, value-lt, remainder, quotient}
 use Rattle.decimal.proofs.Pass2.{Clear}
-use Rattle.decimal.proofs.Whole.{Entry, Adds, Spots, adds, spots, until-le, stop-14}
-
--- what the checks leave
-pub record Fit (main local a b n : ℕ) : Type 0 where
-  pub sizes : storageWrong main local ≡ false
-  pub fits : main ≤ 65536
-  pub some : 1 ≤ n
-  pub few : n ≤ 16
-  pub in-a : a + n ≤ main
-  pub in-b : b + n ≤ main
-  pub clear : Clear a b n
+use Rattle.decimal.proofs.Whole.{Fit, right-sized, Entry, Adds, Spots, adds, spots, until-le, stop-14}
 
 -- fields that start together, or that are apart
 clear-of : (a b n : ℕ) → overlap a b n ≡ false → Clear a b n
@@ -69,15 +58,10 @@ checked main local a b n e =
     }
 
 module _ (main local : List ℕ) (a b n : ℕ) (c : Bool) (f : Fit (length main) (length local) a b n) where
-  right : sizesWrong (length shipped) (length main) (length local) ≡ false
-  unfolding shipped
-  right = f .sizes
-
   entry : Entry n a b main local (start a b n c) c
   entry =
       record {
-        right = right;
-        fits = f .fits;
+        fit = f;
         i = omega (arith, f .in-a, f .fits, f .some);
         j = omega arith;
         u = omega (arith, f .in-b, f .fits, f .some);
@@ -87,17 +71,12 @@ module _ (main local : List ℕ) (a b n : ℕ) (c : Bool) (f : Fit (length main)
         second = omega arith;
         carry = bit-with 0 3 c;
         s0 = s0-kept 0 c;
-        some = f .some;
-        few = f .few;
-        in-a = f .in-a;
-        in-b = f .in-b;
-        clear = f .clear;
       }
 
   -- the run of the program, from what its cycles come to
   run-is : (k : ℕ) (x : Machine) → Goes shipped k (machine (start a b n c) main local) x → Halts shipped x → k < bound n
       → runFor main local a b n c ≡ ended Stopped (x .state) k (x .main) (x .local)
-  run-is k x g h less = run-stops shipped (bound n) k (start a b n c) main local x right (omega (arith, f .few)) g h less
+  run-is k x g h less = run-stops shipped (bound n) k (start a b n c) main local x (right-sized main local a b n f) (omega (arith, f .few)) g h less
 
   -- every digit is 0 to 9
   module _ (d : bothFields main a b n ≡ true) where
@@ -109,7 +88,7 @@ module _ (main local : List ℕ) (a b n : ℕ) (c : Bool) (f : Fit (length main)
     sum-run : runFor main local a b n c ≡ ended Stopped (idle 0x14 (ending .x)) (14 * n + 4) (ending .main′) local
     sum-run =
         run-is (14 * n + 4) (machine (idle 0x14 (ending .x)) (ending .main′) local) (ending .goes)
-        (stop-14 (ending .main′) local (ending .x) (rw (ending .summed .size) right)) (omega (arith, f .some))
+        (stop-14 (ending .main′) local (ending .x) (rw (ending .summed .size) (right-sized main local a b n f))) (omega (arith, f .some))
 
     sum-promise : Sums main local a b n c (Summed (bit (ending .x .s) 3) (14 * n + 4)) (ending .main′) local
     sum-promise =

@@ -8,6 +8,7 @@ use native.Mathlib.Omega.{arith}
 use lib.ListN.{length, getD}
 use Rattle.digits.specs.Bits.{one, bit}
 use Rattle.digits.specs.Digits.{bothDecimal}
+use Rattle.digits.specs.Sizes.{storageWrong, sizesWrong}
 use Rattle.digits.proofs.Bits.{bit-with}
 use Rattle.adder.specs.Adder.{sumOf}
 use Rattle.adder.proofs.Laws.{arithmetic-byte}
@@ -64,10 +65,23 @@ module _ (main local : List ℕ) (s : State) (right : Right shipped (machine s m
   pub stop-14 : Halts shipped (machine (idle 0x14 s) main local)
   stop-14 = stop 0x14 tt (machine (idle 0x14 s) main local) right refl
 
--- two fields of n bytes at a and at b, and a carry in S3
+-- what the checks leave: two fields of n bytes, at a and at b
+pub record Fit (main local a b n : ℕ) : Type 0 where
+  pub sizes : storageWrong main local ≡ false
+  pub fits : main ≤ 65536
+  pub some : 1 ≤ n
+  pub few : n ≤ 16
+  pub in-a : a + n ≤ main
+  pub in-b : b + n ≤ main
+  pub clear : P2.Clear a b n
+
+pub right-sized : (main local : List ℕ) (a b n : ℕ) → Fit (length main) (length local) a b n → sizesWrong (length shipped) (length main) (length local) ≡ false
+unfolding shipped
+right-sized main local a b n f = f .sizes
+
+-- a state that has their starts, their length, and a carry in S3
 pub record Entry (n a b : ℕ) (main local : List ℕ) (s : State) (c : Bool) : Type 0 where
-  pub right : Right shipped (machine s main local)
-  pub fits : length main ≤ 65536
+  pub fit : Fit (length main) (length local) a b n
   pub i : s .i < 256
   pub j : s .j < 256
   pub u : s .u < 256
@@ -77,15 +91,13 @@ pub record Entry (n a b : ℕ) (main local : List ℕ) (s : State) (c : Bool) : 
   pub second : P1.uv s ≡ b
   pub carry : bit (s .s) 3 ≡ c
   pub s0 : bit (s .s) 0 ≡ false
-  pub some : 1 ≤ n
-  pub few : n ≤ 16
-  pub in-a : a + n ≤ length main
-  pub in-b : b + n ≤ length main
-  pub clear : P2.Clear a b n
 
 module _ (n a b : ℕ) (main local : List ℕ) (s : State) (c : Bool) (e : Entry n a b main local s c) where
+  right : Right shipped (machine s main local)
+  right = right-sized main local a b n (e .fit)
+
   l-lt : s .l < 256
-  l-lt = omega (arith, e .l, e .few)
+  l-lt = omega (arith, e .l, e .fit .few)
 
   begun-ready : P1.Ready (begun main local s)
   unfolding entered sumIn sumOf accessOf nextOf statusOf
@@ -120,7 +132,7 @@ module _ (n a b : ℕ) (main local : List ℕ) (s : State) (c : Bool) (e : Entry
   begun-u = e .second
 
   begins : Goes shipped 2 (machine (idle 0x00 s) main local) (machine (idle 0x02 (begun main local s)) main local)
-  begins = next (step-00 main local s (e .right)) (next (step-01 main local s (e .right)) here)
+  begins = next (step-00 main local s right) (next (step-01 main local s right) here)
 
   -- after the first pass
   module _ (x : State) (p : P1.Passed n (begun main local s) x) (r : P1.Ready x) (da : decimalField main a n ≡ true) (db : decimalField main b n ≡ true) where
@@ -131,16 +143,16 @@ module _ (n a b : ℕ) (main local : List ℕ) (s : State) (c : Bool) (e : Entry
     unfolding entered sumIn sumOf accessOf nextOf statusOf
     to-add =
         record {
-          right = e .right;
-          fits = e .fits;
+          right = right;
+          fits = e .fit .fits;
           ready = record { u = r .u; v = r .v; i = r .i; j = r .j; t = arithmetic-byte false (x .l) 0 0; s0 = r .s0 };
           h = p .h ∙ begun-h;
-          t = same (x .l) (omega (arith, x-l, e .few)) ∙ x-l;
+          t = same (x .l) (omega (arith, x-l, e .fit .few)) ∙ x-l;
           i = p .i ∙ ap (λ (k : ℕ). (k + n) % 65536) begun-i;
           u = p .u ∙ ap (λ (k : ℕ). (k + n) % 65536) begun-u;
-          in-a = e .in-a;
-          in-b = e .in-b;
-          clear = e .clear;
+          in-a = e .fit .in-a;
+          in-b = e .fit .in-b;
+          clear = e .fit .clear;
           sound-a = field-sound main a n da;
           sound-b = field-sound main b n db;
         }
@@ -162,16 +174,17 @@ carry-out main local x k h = simp bit-with (rw h (byte-carry k))
 -- where every digit is decimal
 pub adds : (n a b : ℕ) (main local : List ℕ) (s : State) (c : Bool) → Entry n a b main local s c → decimalField main a n ≡ true → decimalField main b n ≡ true
     → Adds n a b main local s c
-adds zero a b main local s c e da db = absurd (omega (arith, e .some))
+adds zero a b main local s c e da db = absurd (omega (arith, e .fit .some))
 adds (suc n) a b main local s c e da db =
+    let right = right-sized main local a b (suc n) (e .fit) in
     let bt = begun-t (suc n) a b main local s c e in
     let bi = begun-i (suc n) a b main local s c e in
     let bu = begun-u (suc n) a b main local s c e in
     let g =
-    P1.good main local (λ x. e .right) (e .fits) n (begun main local s) (begun-ready (suc n) a b main local s c e) bt
-    (omega (arith, bu, e .in-b)) (omega (arith, bi, e .in-a)) (rw bu db) (rw bi da) in
+    P1.good main local (λ x. right) (e .fit .fits) n (begun main local s) (begun-ready (suc n) a b main local s c e) bt
+    (omega (arith, bu, e .fit .in-b)) (omega (arith, bi, e .fit .in-a)) (rw bu db) (rw bi da) in
     let q = P2.all n a b main local (between main local (g .x)) c (to-add (suc n) a b main local s c e (g .x) (g .passed) (g .ready) da db) in
-    let right′ : Right shipped (machine (q .x) (q .main′) local) = rw (q .summed .size) (e .right) in
+    let right′ : Right shipped (machine (q .x) (q .main′) local) = rw (q .summed .size) right in
     record {
       x = summed (q .main′) local (q .x);
       main′ = q .main′;
@@ -180,7 +193,7 @@ adds (suc n) a b main local s c e da db =
           (λ (m : ℕ). Goes shipped m (machine (idle 0x00 s) main local) (machine (idle 0x14 (summed (q .main′) local (q .x))) (q .main′) local))
           (omega arith)
           (join (begins (suc n) a b main local s c e)
-          (join (g .goes) (next (step-03 main local (g .x) (e .right)) (join (q .goes) (next (step-0B (q .main′) local (q .x) right′) here)))));
+          (join (g .goes) (next (step-03 main local (g .x) right) (join (q .goes) (next (step-0B (q .main′) local (q .x) right′) here)))));
       carry = carry-out (q .main′) local (q .x) (q .k) (q .h);
       summed = q .summed;
     }
@@ -194,14 +207,15 @@ pub record Spots (n a b : ℕ) (main local : List ℕ) (s : State) : Type 0 wher
 -- where one is not
 pub spots : (n a b : ℕ) (main local : List ℕ) (s : State) (c : Bool) → Entry n a b main local s c → decimalField main a n && decimalField main b n ≡ false
     → Spots n a b main local s
-spots zero a b main local s c e d = absurd (omega (arith, e .some))
+spots zero a b main local s c e d = absurd (omega (arith, e .fit .some))
 spots (suc n) a b main local s c e d =
+    let right = right-sized main local a b (suc n) (e .fit) in
     let bt = begun-t (suc n) a b main local s c e in
     let bi = begun-i (suc n) a b main local s c e in
     let bu = begun-u (suc n) a b main local s c e in
     by bi bu
-    (P1.bad main local (λ x. e .right) (e .fits) n (begun main local s) (begun-ready (suc n) a b main local s c e) bt
-    (omega (arith, bu, e .in-b)) (omega (arith, bi, e .in-a)) (rw (bi, bu) d))
+    (P1.bad main local (λ x. right) (e .fit .fits) n (begun main local s) (begun-ready (suc n) a b main local s c e) bt
+    (omega (arith, bu, e .fit .in-b)) (omega (arith, bi, e .fit .in-a)) (rw (bi, bu) d))
   where
     by : P1.ij (begun main local s) ≡ a → P1.uv (begun main local s) ≡ b → P1.Bad (suc n) main local (begun main local s) → Spots (suc n) a b main local s
     by bi bu g =

@@ -1,18 +1,15 @@
--- A deck's answers, and that their counts are small. Assumes nothing.
+-- The counts of a deck's answers are small. Assumes nothing.
 use Prim.Native.Nat.{ℕ, zero, suc, _*_, _/_, _≤_}
 use mathlib.Core.Path.{_≡_}
 use mathlib.Core.List.{List, map}
 use native.Mathlib.Omega.{arith}
 use lib.ListN.{length, take, drop, length-append, length-take, length-drop}
 use Rattle.deck.specs.Lists.{pieces, joined}
-use Rattle.deck.specs.Deck.{groupsOf, blocksOf, wordsIn, wordsOf, readOf, wordsAfter, writeOf, deckAfter}
-use Rattle.deck.specs.declared.Reading.{Reading}
+use Rattle.deck.specs.Deck.{groupsOf, blocksOf, wordsIn, wordsOf, readOf, writeOf}
 use Rattle.deck.specs.declared.Reading.the-variants as R
-use Rattle.deck.specs.declared.Writing.{Writing}
 use Rattle.deck.specs.declared.Writing.the-variants as W
 use Rattle.deck.proofs.Groups.{length-groups}
 use Rattle.deck.proofs.Answers.{sized, few, was-read, wrote}
-use Rattle.panel.specs.Answers.{answered, readNumber, writeNumber, readDeckCall, writeDeckCall}
 
 -- a block of 64 groups has at most 63 words
 block-few : (gs : List ℕ) → length gs ≡ 64 → length (wordsIn gs) ≤ 63
@@ -43,11 +40,3 @@ write-few ws room n e =
     let k = few (length ws) (w .length-right) .1 in
     let c = w .bytes in
     omega arith
-
-pub reads : (deck words out : List ℕ) (a : Reading) (r : ℕ) → a ≡ readOf deck (length words) → out ≡ wordsAfter deck words → r ≡ readNumber a → answered r out ≡ readDeckCall deck words
-unfolding readDeckCall
-reads deck words out a r e o q = rw (q, e, o)
-
-pub writes : (words deck out : List ℕ) (a : Writing) (r : ℕ) → a ≡ writeOf words (length deck) → out ≡ deckAfter words deck → r ≡ writeNumber a → answered r out ≡ writeDeckCall words deck
-unfolding writeDeckCall
-writes words deck out a r e o q = rw (q, e, o)

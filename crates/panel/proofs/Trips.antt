@@ -1,5 +1,5 @@
 -- Loading and saving are inverse, once over any list of channels. Assumes nothing.
-use Prim.Native.Nat.{ℕ, zero, suc, _+_, _*_, _/_, _%_, _<_, _≤_}
+use Prim.Native.Nat.{ℕ, zero, suc, _+_, _/_, _%_, _<_, _≤_}
 use mathlib.Core.Path.{_≡_, refl, ap, _∙_}
 use mathlib.Core.List.{List, [], _∷_, _++_, append-assoc}
 use mathlib.Core.Bool.{Bool, true, false, not}
@@ -9,12 +9,13 @@ use native.Mathlib.Omega.{arith}
 use lib.Dec.{eqb}
 use lib.ListN.{length, getD, drop, replicate}
 use lib.Seq.{drop-cons}
+use lib.Pow.{split, high, low}
 use Rattle.digits.specs.Bits.{one}
 use Rattle.digits.proofs.Truth.{zero-one}
 use Rattle.deck.specs.Lists.{over}
 use Rattle.word.specs.declared.Fields.{Fields}
 use Rattle.machine.specs.declared.State.{State}
-use Rattle.panel.specs.Record.{Lamps, byte, pair, latch, Value, Values, size, lampBytes, valueAt, save, load, channels, valuesOf, stateBy, saved, loaded, fieldBytes, fieldsIn}
+use Rattle.panel.specs.Record.{Lamps, byte, pair, latch, Value, Values, size, width, lampBytes, valueAt, save, load, channels, valuesOf, stateBy, saved, loaded, fieldBytes, fieldsIn}
 
 -- ---- what was saved is loaded again
 
@@ -27,9 +28,6 @@ next-byte (y ∷ l) (suc i) x rest e =
     let (a, b) = next-byte l i x rest e in
     (a, rw add-one (rw add-one at b))
 
-whole : (x : ℕ) → x / 256 * 256 + x % 256 ≡ x
-whole x = omega arith
-
 latch-back : (on : Bool) → not (eqb (one on) 0) ≡ on
 latch-back true = refl
 latch-back false = refl
@@ -41,7 +39,7 @@ one-loaded pair v l i rest e =
     let (a, d) = next-byte l i (v / 256) (v % 256 ∷ rest) e in
     let (b, t) = next-byte l (i + 1) (v % 256) rest d in
     let two : i + 2 ≡ i + 1 + 1 = omega arith in
-    (rw (a, b) (whole v), rw two t)
+    (rw (a, b) (split v 8), rw two t)
 one-loaded latch v l i rest e =
     let (a, d) = next-byte l i (one v) rest e in
     (rw a (latch-back v), d)
@@ -65,18 +63,8 @@ abbrev pub AllClean : List Lamps → ℕ → List ℕ → Type 0
 AllClean [] i l = Unit {0}
 AllClean (c ∷ cs) i l = Clean c i l × AllClean cs (i + size c) l
 
-abbrev pub width : List Lamps → ℕ
-width [] = 0
-width (c ∷ cs) = size c + width cs
-
 byte-back : (l : List ℕ) (i : ℕ) → i < length l → getD l i 0 ∷ drop (i + 1) l ≡ drop i l
 byte-back l i h = rw (add-one, drop-cons l i 0 h)
-
-high : (a b : ℕ) → b < 256 → (a * 256 + b) / 256 ≡ a
-high a b h = omega arith
-
-low : (a b : ℕ) → b < 256 → (a * 256 + b) % 256 ≡ b
-low a b h = omega arith
 
 bit-back : (b : ℕ) → b < 2 → one (not (eqb b 0)) ≡ b
 bit-back zero h = refl
@@ -87,7 +75,7 @@ one-saved : (c : Lamps) (l : List ℕ) (i : ℕ) → i + size c ≤ length l →
 one-saved byte l i h k = byte-back l i (omega arith)
 one-saved pair l i h k =
     let two : i + 2 ≡ i + 1 + 1 = omega arith in
-    rw (high (getD l i 0) (getD l (i + 1) 0) k, low (getD l i 0) (getD l (i + 1) 0) k, two)
+    rw (high (getD l i 0) 8 k, low (getD l i 0) 8 k, two)
     (ap (λ (t : List ℕ). getD l i 0 ∷ t) (byte-back l (i + 1) (omega arith)) ∙ byte-back l i (omega arith))
 one-saved latch l i h k = rw (bit-back (getD l i 0) k) (byte-back l i (omega arith))
 

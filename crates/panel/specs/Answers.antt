@@ -27,7 +27,7 @@ use Rattle.deck.specs.declared.Reading.{Reading}
 use Rattle.deck.specs.declared.Reading.the-variants as R
 use Rattle.deck.specs.declared.Writing.{Writing}
 use Rattle.deck.specs.declared.Writing.the-variants as W
-use Rattle.panel.specs.Record.{saved, loaded, fieldBytes, fieldsIn}
+use Rattle.panel.specs.Record.{recordLength, saved, loaded, fieldBytes, fieldsIn}
 
 -- enum panel_kind
 abbrev pub RAN : ℕ
@@ -112,7 +112,7 @@ cycledBy o state = cycled (o .answer) (o .main) (o .local) state
 
 unfoldable pub cycleCall : List ℕ → List ℕ → List ℕ → List ℕ → Called
 cycleCall store main local state =
-    cond (ltb (length state) 22) (short main local state) (cycledBy (cycleOf store main local (loaded state)) state)
+    cond (ltb (length state) recordLength) (short main local state) (cycledBy (cycleOf store main local (loaded state)) state)
 
 -- PANEL_STOPPED, PANEL_REFUSED or PANEL_SPENT
 abbrev pub endingCode : Ending → ℕ
@@ -130,7 +130,7 @@ ranBy r state =
 
 unfoldable pub runCall : List ℕ → List ℕ → List ℕ → List ℕ → ℕ → Called
 runCall store main local state budget =
-    cond (ltb (length state) 22) (short main local state) (ranBy (runOf budget store main local (loaded state)) state)
+    cond (ltb (length state) recordLength) (short main local state) (ranBy (runOf budget store main local (loaded state)) state)
 
 -- ---- decimal add
 

@@ -29,6 +29,11 @@ size byte = 1
 size pair = 2
 size latch = 1
 
+-- and how many bytes some are together
+abbrev pub width : List Lamps → ℕ
+width [] = 0
+width (c ∷ cs) = size c + width cs
+
 -- the bytes of a value: "high byte first"; a latch's is 0 or 1
 abbrev pub lampBytes : (c : Lamps) → Value c → List ℕ
 lampBytes byte x = x ∷ []
@@ -75,6 +80,10 @@ channels =
     latch ∷  -- ARRIVING
     byte ∷  -- ARRIVING_BYTE
     []
+
+-- PANEL_STATE: 22
+abbrev pub recordLength : ℕ
+recordLength = width channels
 
 -- what the channels show of a state, and the state that they show
 abbrev pub valuesOf : State → Values channels

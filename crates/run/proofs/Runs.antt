@@ -10,7 +10,7 @@ use Rattle.machine.specs.declared.State.{State}
 use Rattle.machine.specs.declared.Cycled.{Cycled}
 use Rattle.machine.specs.declared.Cycled.the-variants as C
 use Rattle.run.specs.Run.{ended, onward, cyclesOf, runChecks, runBy, runOf}
-use Rattle.run.specs.declared.Ending.the-variants.{Stopped, Refused, Spent}
+use Rattle.run.specs.declared.Ending.the-variants.{Refused, Spent}
 
 pub spent : (store main local : List ℕ) (s : State) (n : ℕ) → cyclesOf 0 store main local s n ≡ ended Spent s n main local
 unfolding cyclesOf
@@ -25,20 +25,13 @@ turn budget store main local s n r m l o = ap (λ (x : Outcome Cycled). onward (
 pub on-spent : (b d : ℕ) (store main local : List ℕ) (s : State) → d ≡ b → cyclesOf (b - d) store main local s d ≡ ended Spent s d main local
 on-spent b d store main local s e = let z : b - d ≡ 0 = omega arith in rw (z, spent)
 
-module _ (b d : ℕ) (store main local m l : List ℕ) (s : State) (r : Cycled) (less : d < b) (o : outcome r m l ≡ cycleOf store main local s) where
-  on-any : cyclesOf (b - d) store main local s d ≡ onward (cyclesOf (b - (d + 1)) store) r m l d
-  on-any =
-      let z : b - d ≡ suc (b - (d + 1)) = omega arith in
-      ap (λ (n : ℕ). cyclesOf n store main local s d) z ∙ turn (b - (d + 1)) store main local s d r m l o
-
-  pub on-ran : (t : State) → r ≡ C.Ran t → cyclesOf (b - d) store main local s d ≡ cyclesOf (b - (d + 1)) store m l t (d + 1)
-  on-ran t e = on-any ∙ ap (λ (x : Cycled). onward (cyclesOf (b - (d + 1)) store) x m l d) e
-
-  pub on-stopped : (t : State) → r ≡ C.Stopped t → cyclesOf (b - d) store main local s d ≡ ended Stopped t d m l
-  on-stopped t e = on-any ∙ ap (λ (x : Cycled). onward (cyclesOf (b - (d + 1)) store) x m l d) e
-
-  pub on-refused : (t : State) (n f : ℕ) → r ≡ C.Refused t n f → cyclesOf (b - d) store main local s d ≡ ended (Refused n f) t d m l
-  on-refused t n f e = on-any ∙ ap (λ (x : Cycled). onward (cyclesOf (b - (d + 1)) store) x m l d) e
+pub on-answer : (b d : ℕ) (store main local m l : List ℕ) (s : State) (r x : Cycled) → d < b → outcome r m l ≡ cycleOf store main local s → r ≡ x
+    → cyclesOf (b - d) store main local s d ≡ onward (cyclesOf (b - (d + 1)) store) x m l d
+on-answer b d store main local m l s r x less o e =
+    let z : b - d ≡ suc (b - (d + 1)) = omega arith in
+    ap (λ (n : ℕ). cyclesOf n store main local s d) z
+    ∙ turn (b - (d + 1)) store main local s d r m l o
+    ∙ ap (λ (y : Cycled). onward (cyclesOf (b - (d + 1)) store) y m l d) e
 
 -- a run that is refused at once, and one that is not
 module _ (budget : ℕ) (store main local : List ℕ) (s : State) where

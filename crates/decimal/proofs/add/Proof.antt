@@ -3,7 +3,8 @@ use mathlib.Core.Path.{sym, _∙_}
 use native.Mathlib.Omega.{arith}
 use denote.Ref.{now}
 use lib.ListN.{length}
-use Rattle.decimal.proofs.Kept.{Fit, checked, refuses, accepts, with-promise}
+use Rattle.decimal.proofs.Whole.{Fit}
+use Rattle.decimal.proofs.Kept.{checked, refuses, accepts, with-promise}
 use borrow.Author.Needs.{needs}
 use Rattle.decimal.proofs.add.Statement.{statement}
 use Rattle.decimal.proofs.add.Tie as tie

@@ -1,17 +1,16 @@
 -- By the answer. Assumes nothing.
-use Rattle.panel.proofs.Calls.{on-summed, on-bad-digit, on-refused}
 use borrow.Author.Needs.{needs}
 use Rattle.panel.proofs.added_code.Statement.{statement}
 use Rattle.panel.proofs.added_code.Tie as tie
 
 returns : tie.Need-returns
-returns c = on-summed _ _ _ _ _ _ (c .before .before .before .before .added .given .1) (c .before .before .latch .ensures) (c .before .coded .ensures) (c .counted .ensures)
+returns c = rw (c .before .before .before .before .added .given .1, c .counted .ensures, c .before .coded .ensures, c .before .before .latch .ensures)
 
 returns-2 : tie.Need-returns-2
-returns-2 c = on-bad-digit _ _ _ _ (c .before .before .before .added2 .given .1) (c .before .coded2 .ensures) (c .counted2 .ensures)
+returns-2 c = rw (c .before .before .before .added2 .given .1, c .counted2 .ensures, c .before .coded2 .ensures)
 
 returns-3 : tie.Need-returns-3
-returns-3 c = on-refused _ _ _ _ (c .before .before .before .added3 .given .1) (c .before .coded3 .ensures) (c .counted3 .ensures)
+returns-3 c = rw (c .before .before .before .added3 .given .1, c .counted3 .ensures, c .before .coded3 .ensures)
 
 pub added-code-spec : {M : Type 1} → statement M
 added-code-spec =

@@ -1,7 +1,9 @@
 -- 19, then the fields. Assumes nothing.
+use mathlib.Core.Path.{ap, _∙_}
 use lib.ListN.{length}
 use denote.Ref.{now}
-use Rattle.panel.proofs.Calls.{pack-short, room, pack-word, pack-refused}
+use Rattle.panel.specs.Answers.{answered}
+use Rattle.panel.proofs.Calls.{pack-short, room, front, pack-is}
 use borrow.Author.Needs.{needs}
 use Rattle.panel.proofs.panel_pack.Statement.{statement}
 use Rattle.panel.proofs.panel_pack.Tie as tie
@@ -16,10 +18,14 @@ slice-write-word : tie.Need-slice-write-word
 slice-write-word c = let a = c .before .before .before .before .before .before .before .before .args in room (length (now (a .fields))) (length (now (a .word))) (c .before .before .before .before .before .if1 .left) .1
 
 returns-2 : tie.Need-returns-2
-returns-2 c = pack-word _ _ _ _ _ (c .before .before .before .before .fields-in .ensures) (c .before .before .before .pack .ensures) (c .before .before .before .before .before .if1 .left) _ (c .before .w .given .1)
+returns-2 c =
+    let a = c .before .before .before .before .before .before .before .before .args in
+    let left = c .before .before .before .before .before .if1 .left in
+    ap (answered 0) (front (now (a .word)) _ (room (length (now (a .fields))) (length (now (a .word))) left .1))
+    ∙ pack-is _ _ _ left _ _ _ (c .before .before .before .before .fields-in .ensures) (c .before .before .before .pack .ensures) (c .before .w .given .1)
 
 returns-3 : tie.Need-returns-3
-returns-3 c = pack-refused _ _ _ _ _ (c .before .before .before .before .fields-in .ensures) (c .before .before .before .pack .ensures) (c .before .before .before .before .before .if1 .left) _ (c .before .number .given .1)
+returns-3 c = pack-is _ _ _ (c .before .before .before .before .before .if1 .left) _ _ _ (c .before .before .before .before .fields-in .ensures) (c .before .before .before .pack .ensures) (c .before .number .given .1)
 
 pub panel-pack-spec : {M : Type 1} → statement M
 panel-pack-spec =

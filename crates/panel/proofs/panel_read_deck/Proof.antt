@@ -1,7 +1,8 @@
 -- The number of words is small. Assumes nothing.
-use mathlib.Core.Path.{sym, _∙_}
+use mathlib.Core.Path.{sym, ap, ap₂, _∙_}
 use native.Mathlib.Omega.{arith}
-use Rattle.panel.proofs.Decks.{read-few, reads}
+use Rattle.panel.specs.Answers.{answered, readNumber, readDeckCall}
+use Rattle.panel.proofs.Decks.{read-few}
 use borrow.Author.Needs.{needs}
 use Rattle.panel.proofs.panel_read_deck.Statement.{statement}
 use Rattle.panel.proofs.panel_read_deck.Tie as tie
@@ -10,10 +11,16 @@ cast-result : tie.Need-cast-result
 cast-result c = let k = read-few _ _ _ (sym (c .before .before .before .before .before .read .ensures .0) ∙ c .before .count .given .1) in omega arith
 
 returns : tie.Need-returns
-returns c = reads _ _ _ _ _ (c .before .before .before .before .before .read .ensures .0) (c .before .before .before .before .before .read .ensures .1) (rw (c .before .count .given .1))
+unfolding readDeckCall
+returns c =
+    let read = c .before .before .before .before .before .read .ensures in
+    ap₂ answered (ap readNumber (sym (c .before .count .given .1) ∙ read .0)) (read .1)
 
 returns-2 : tie.Need-returns-2
-returns-2 c = reads _ _ _ _ _ (c .before .before .before .before .before .read .ensures .0) (c .before .before .before .before .before .read .ensures .1) (rw (c .before .number .given .1))
+unfolding readDeckCall
+returns-2 c =
+    let read = c .before .before .before .before .before .read .ensures in
+    ap₂ answered (ap readNumber (sym (c .before .number .given .1) ∙ read .0)) (read .1)
 
 pub panel-read-deck-spec : {M : Type 1} → statement M
 panel-read-deck-spec =

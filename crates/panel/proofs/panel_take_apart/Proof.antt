@@ -1,5 +1,7 @@
 -- 19, then the word. Assumes nothing.
-use Rattle.panel.proofs.Calls.{apart-short, apart-fields, apart-refused}
+use mathlib.Core.Path.{ap, _∙_}
+use Rattle.panel.specs.Answers.{answered}
+use Rattle.panel.proofs.Calls.{apart-short, apart-is}
 use borrow.Author.Needs.{needs}
 use Rattle.panel.proofs.panel_take_apart.Statement.{statement}
 use Rattle.panel.proofs.panel_take_apart.Tie as tie
@@ -8,10 +10,12 @@ returns : tie.Need-returns
 returns c = apart-short _ _ _ (c .if1 .taken)
 
 returns-2 : tie.Need-returns-2
-returns-2 c = apart-fields _ _ _ _ (c .before .before .before .before .before .before .before .before .if1 .left) (c .before .before .before .before .before .before .before .take-apart .ensures) _ _ (c .before .before .before .before .before .f .given .1) (c .before .before .put-fields .ensures)
+returns-2 c =
+    ap (answered 0) (c .before .before .put-fields .ensures)
+    ∙ apart-is _ _ _ (c .before .before .before .before .before .before .before .before .if1 .left) _ _ (c .before .before .before .before .before .before .before .take-apart .ensures) (c .before .before .before .before .before .f .given .1)
 
 returns-3 : tie.Need-returns-3
-returns-3 c = apart-refused _ _ _ _ (c .before .before .before .before .if1 .left) (c .before .before .before .take-apart .ensures) _ (c .before .number .given .1)
+returns-3 c = apart-is _ _ _ (c .before .before .before .before .if1 .left) _ _ (c .before .before .before .take-apart .ensures) (c .before .number .given .1)
 
 pub panel-take-apart-spec : {M : Type 1} → statement M
 panel-take-apart-spec =

@@ -8,7 +8,7 @@ use lib.ListN.{length}
 use Rattle.machine.specs.Cycle.{outcome}
 use Rattle.run.specs.Run.{cyclesOf}
 use Rattle.run.specs.declared.Finished.{Finished}
-use Rattle.run.proofs.Runs.{on-spent, on-ran, on-stopped, on-refused}
+use Rattle.run.proofs.Runs.{on-spent, on-answer}
 use Rattle.run.proofs.cycles.Statement.{statement}
 use Rattle.run.proofs.cycles.Tie as tie
 
@@ -31,7 +31,7 @@ loop-again c =
       omega arith,
       one .kept .1 .1 .0 ∙ at .inv .1,
       one .kept .1 .1 .1 .0 ∙ at .inv .2,
-      sym (on-ran _ _ _ _ _ _ _ _ _ (omega (arith, less)) (one .ensures) _ (c .before .next .given .1)) ∙ at .inv .3,
+      sym (on-answer _ _ _ _ _ _ _ _ _ _ (omega (arith, less)) (one .ensures) (c .before .next .given .1)) ∙ at .inv .3,
     )
 
 returns : tie.Need-returns Inv-loop μ-loop
@@ -43,7 +43,7 @@ returns-2 c =
     let one = c .before .before .before .before .before .before .before .before .one in
     let less = c .before .before .before .before .before .before .before .before .before .before .before .if1 .left in
     ap (λ (f : Finished). outcome f (one .last .1 .1 .0) (one .last .1 .1 .1 .0)) (c .ended2 .ensures)
-    ∙ sym (on-stopped _ _ _ _ _ _ _ _ _ (omega (arith, less)) (one .ensures) _ (c .before .before .last .given .1)) ∙ at .inv .3
+    ∙ sym (on-answer _ _ _ _ _ _ _ _ _ _ (omega (arith, less)) (one .ensures) (c .before .before .last .given .1)) ∙ at .inv .3
 
 returns-3 : tie.Need-returns-3 Inv-loop μ-loop
 returns-3 c =
@@ -51,7 +51,7 @@ returns-3 c =
     let one = c .before .before .before .before .before .before .before .before .one in
     let less = c .before .before .before .before .before .before .before .before .before .before .before .if1 .left in
     ap (λ (f : Finished). outcome f (one .last .1 .1 .0) (one .last .1 .1 .1 .0)) (c .ended3 .ensures)
-    ∙ sym (on-refused _ _ _ _ _ _ _ _ _ (omega (arith, less)) (one .ensures) _ _ _ (c .before .before .last2 .given .1)) ∙ at .inv .3
+    ∙ sym (on-answer _ _ _ _ _ _ _ _ _ _ (omega (arith, less)) (one .ensures) (c .before .before .last2 .given .1)) ∙ at .inv .3
 
 pub cycles-spec : {M : Type 1} → statement M
 cycles-spec =
