@@ -5,7 +5,7 @@ ghost use Rattle.digits.specs.Bits.{one};
 ghost use Rattle.adder.specs.Gates.{gatedA, gatedB};
 ghost use Rattle.adder.specs.Adder.{isComplement, turned, sixes, entering, summed, lowered, correctedOf, resultOf, finished, uncarried, operated, sumOf};
 
-// A board with no room for the table leaves out these two lines, and the files that are named after it.
+// The correction by the table. It makes the promise that the rule makes, so a caller may have either.
 mod table;
 
 pub use table::add_by_table;

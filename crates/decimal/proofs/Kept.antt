@@ -30,7 +30,7 @@ use Rattle.decimal.proofs.Steps.{idle, Halts, run-stops}
 use Rattle.decimal.proofs.Pairs.{s0-kept}
 use Rattle.decimal.proofs.Fields.{sound-field, value-lt, remainder, quotient}
 use Rattle.decimal.proofs.Pass2.{Clear}
-use Rattle.decimal.proofs.Whole.{Fit, right-sized, Entry, Adds, Spots, adds, spots, until-le, stop-14}
+use Rattle.decimal.proofs.Whole.{Fit, right-sized, AtStart, Adds, Spots, adds, spots, until-le, stop-14}
 
 -- fields that start together, or that are apart
 clear-of : (a b n : ℕ) → overlap a b n ≡ false → Clear a b n
@@ -58,7 +58,7 @@ checked main local a b n e =
     }
 
 module _ (main local : List ℕ) (a b n : ℕ) (c : Bool) (f : Fit (length main) (length local) a b n) where
-  entry : Entry n a b main local (start a b n c) c
+  entry : AtStart n a b main local (start a b n c) c
   entry =
       record {
         fit = f;

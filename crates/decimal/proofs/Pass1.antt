@@ -151,14 +151,14 @@ no-wrap : (a b n len : ℕ) → b ≡ (a + 1) % 65536 → a + suc (suc n) ≤ le
 no-wrap a b n len e h k = omega arith
 
 -- where all digits are decimal, the pass comes to 03
-pub record Good (n : ℕ) (main local : List ℕ) (s : State) : Type 0 where
+pub record AllGood (n : ℕ) (main local : List ℕ) (s : State) : Type 0 where
   pub x : State
   pub goes : Goes shipped (n * 5) (machine (idle 0x02 s) main local) (machine (idle 0x03 x) main local)
   pub passed : Passed n s x
   pub ready : Ready x
 
 -- where one is not, to 06 or 08
-pub record Bad (n : ℕ) (main local : List ℕ) (s : State) : Type 0 where
+pub record OneBad (n : ℕ) (main local : List ℕ) (s : State) : Type 0 where
   pub x : State
   pub goes : Goes shipped (untilBad main (ij s) (uv s) n) (machine (idle 0x02 s) main local) (machine x main local)
   pub stops : Halts shipped (machine x main local)
@@ -173,7 +173,7 @@ module _ (main local : List ℕ) (right : (s : State) → Right shipped (machine
         (next (step-04 main local s (right s) hu true du)
         (next (step-07 main local s (right s) hi) (next (step-05 main local s (right s) hi true di) (next (step-09 main local s (right s) b e) here))))
 
-    bad-second : (n : ℕ) → bothDecimal (getD main (uv s) 0) ≡ false → Bad (suc n) main local s
+    bad-second : (n : ℕ) → bothDecimal (getD main (uv s) 0) ≡ false → OneBad (suc n) main local s
     unfolding untilBad
     bad-second n du =
         record {
@@ -183,7 +183,7 @@ module _ (main local : List ℕ) (right : (s : State) → Right shipped (machine
           place = inl refl;
         }
 
-    bad-first : (n : ℕ) → bothDecimal (getD main (uv s) 0) ≡ true → bothDecimal (getD main (ij s) 0) ≡ false → Bad (suc n) main local s
+    bad-first : (n : ℕ) → bothDecimal (getD main (uv s) 0) ≡ true → bothDecimal (getD main (ij s) 0) ≡ false → OneBad (suc n) main local s
     unfolding untilBad
     bad-first n du di =
         record {
@@ -197,7 +197,7 @@ module _ (main local : List ℕ) (right : (s : State) → Right shipped (machine
 
     bad-later : (n : ℕ) → ij (tested main local s) ≡ ij s + 1 → uv (tested main local s) ≡ uv s + 1
         → Goes shipped 5 (machine (idle 0x02 s) main local) (machine (idle 0x02 (tested main local s)) main local)
-        → bothDecimal (getD main (uv s) 0) ≡ true → bothDecimal (getD main (ij s) 0) ≡ true → Bad n main local (tested main local s) → Bad (suc n) main local s
+        → bothDecimal (getD main (uv s) 0) ≡ true → bothDecimal (getD main (ij s) 0) ≡ true → OneBad n main local (tested main local s) → OneBad (suc n) main local s
     unfolding untilBad
     bad-later n ei eu g du di b =
         record {
@@ -208,7 +208,7 @@ module _ (main local : List ℕ) (right : (s : State) → Right shipped (machine
         }
 
   pub good : (n : ℕ) (s : State) → Ready s → s .t ≡ suc n → uv s + suc n ≤ length main → ij s + suc n ≤ length main
-      → decimalField main (uv s) (suc n) ≡ true → decimalField main (ij s) (suc n) ≡ true → Good (suc n) main local s
+      → decimalField main (uv s) (suc n) ≡ true → decimalField main (ij s) (suc n) ≡ true → AllGood (suc n) main local s
   good zero s r t hu hi du di =
       record {
         x = tested main local s;
@@ -233,16 +233,16 @@ module _ (main local : List ℕ) (right : (s : State) → Right shipped (machine
 
   -- a byte that is not decimal, or both are
   early : (n : ℕ) (s : State) → uv s < length main → ij s < length main
-      → (bothDecimal (getD main (uv s) 0) ≡ true → bothDecimal (getD main (ij s) 0) ≡ true → Bad (suc n) main local s) → Bad (suc n) main local s
+      → (bothDecimal (getD main (uv s) 0) ≡ true → bothDecimal (getD main (ij s) 0) ≡ true → OneBad (suc n) main local s) → OneBad (suc n) main local s
   early n s hu hi later = by (bothDecimal (getD main (uv s) 0)) (bothDecimal (getD main (ij s) 0)) refl refl
     where
-      by : (p q : Bool) → bothDecimal (getD main (uv s) 0) ≡ p → bothDecimal (getD main (ij s) 0) ≡ q → Bad (suc n) main local s
+      by : (p q : Bool) → bothDecimal (getD main (uv s) 0) ≡ p → bothDecimal (getD main (ij s) 0) ≡ q → OneBad (suc n) main local s
       by false q du di = bad-second s hu hi n du
       by true false du di = bad-first s hu hi n du di
       by true true du di = later du di
 
   pub bad : (n : ℕ) (s : State) → Ready s → s .t ≡ suc n → uv s + suc n ≤ length main → ij s + suc n ≤ length main
-      → decimalField main (ij s) (suc n) && decimalField main (uv s) (suc n) ≡ false → Bad (suc n) main local s
+      → decimalField main (ij s) (suc n) && decimalField main (uv s) (suc n) ≡ false → OneBad (suc n) main local s
   bad zero s r t hu hi e =
       early 0 s (omega arith) (omega arith) (λ du di. absurd (true-not-false refl (rw (di, du) at e)))
   bad (suc n) s r t hu hi e =

@@ -232,21 +232,21 @@ abbrev pub Clear : ℕ → ℕ → ℕ → Type 0
 Clear a b n = (i j : ℕ) → j < i → i < n → b + j ≡ a + i → ⊥
 
 -- n bytes at a and n at b summed into a
-pub record Summed (a b n : ℕ) (main main′ : List ℕ) (c k : Bool) : Type 0 where
+pub record SumStands (a b n : ℕ) (main main′ : List ℕ) (c k : Bool) : Type 0 where
   pub size : length main′ ≡ length main
   pub below : (j : ℕ) → j < a → getD main′ j 0 ≡ getD main j 0
   pub above : (j : ℕ) → a + n ≤ j → getD main′ j 0 ≡ getD main j 0
   pub digits : Sound main′ a n
   pub sum : value main′ a n + 100 ^ n * one k ≡ value main a n + value main b n + one c
 
-nothing-left : (a b : ℕ) (main : List ℕ) (c : Bool) → Summed a b 0 main main c c
+nothing-left : (a b : ℕ) (main : List ℕ) (c : Bool) → SumStands a b 0 main main c c
 unfolding value
 nothing-left a b main c =
     record { size = refl; below = λ j h. refl; above = λ j h. refl; digits = λ i h. absurd (omega arith); sum = omega arith }
 
 -- the byte at a + n, then the n before it
 one-more : (a b n r : ℕ) (main main₁ main₂ : List ℕ) (s x : State) (c k q : Bool) → One main main₁ s x c k r → ij x ≡ a + n → uv x ≡ b + n
-    → a + n < length main → Clear a b (suc n) → Summed a b n main₁ main₂ k q → Summed a b (suc n) main main₂ c q
+    → a + n < length main → Clear a b (suc n) → SumStands a b n main₁ main₂ k q → SumStands a b (suc n) main main₂ c q
 unfolding value
 one-more a b n r main main₁ main₂ s x c k q st ei eu fit clear sm =
     record {
@@ -286,7 +286,7 @@ pub record All (n a b : ℕ) (main local : List ℕ) (s : State) (c : Bool) : Ty
   pub k : Bool
   pub goes : Goes shipped (n * 9) (machine (idle 0x0A s) main local) (machine (idle 0x0B x) main′ local)
   pub h : x .h ≡ one k
-  pub summed : Summed a b n main main′ c k
+  pub summed : SumStands a b n main main′ c k
 
 back : (a n p q len : ℕ) → p ≡ (a + suc n) % 65536 → q ≡ (p + 65535) % 65536 → a + suc n ≤ len → len ≤ 65536 → q ≡ a + n
 back a n p q len e f h k = omega arith
@@ -345,7 +345,7 @@ module _ (n a b : ℕ) (main local : List ℕ) (s : State) (c : Bool) (p : ToAdd
   goes-nine = nine main local s (p .right) (rw same-size (p .right)) in-u in-i
 
   -- that byte, and the n before it
-  sum-more : (main′ : List ℕ) (k : Bool) → Summed a b n (main-after main local s) main′ (the-byte .0) k → Summed a b (suc n) main main′ c k
+  sum-more : (main′ : List ℕ) (k : Bool) → SumStands a b n (main-after main local s) main′ (the-byte .0) k → SumStands a b (suc n) main main′ c k
   sum-more main′ k q =
       one-more a b n (after-11 main local s .r) main (main-after main local s) main′ s (added main local s) c (the-byte .0) k (the-byte .1) added-i added-u (omega (arith, p .in-a)) (p .clear) q
 

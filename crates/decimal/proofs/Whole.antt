@@ -80,7 +80,7 @@ unfolding shipped
 right-sized main local a b n f = f .sizes
 
 -- a state that has their starts, their length, and a carry in S3
-pub record Entry (n a b : ℕ) (main local : List ℕ) (s : State) (c : Bool) : Type 0 where
+pub record AtStart (n a b : ℕ) (main local : List ℕ) (s : State) (c : Bool) : Type 0 where
   pub fit : Fit (length main) (length local) a b n
   pub i : s .i < 256
   pub j : s .j < 256
@@ -92,7 +92,7 @@ pub record Entry (n a b : ℕ) (main local : List ℕ) (s : State) (c : Bool) : 
   pub carry : bit (s .s) 3 ≡ c
   pub s0 : bit (s .s) 0 ≡ false
 
-module _ (n a b : ℕ) (main local : List ℕ) (s : State) (c : Bool) (e : Entry n a b main local s c) where
+module _ (n a b : ℕ) (main local : List ℕ) (s : State) (c : Bool) (e : AtStart n a b main local s c) where
   right : Right shipped (machine s main local)
   right = right-sized main local a b n (e .fit)
 
@@ -165,14 +165,14 @@ pub record Adds (n a b : ℕ) (main local : List ℕ) (s : State) (c : Bool) : T
   pub k : Bool
   pub goes : Goes shipped (14 * n + 4) (machine (idle 0x00 s) main local) (machine (idle 0x14 x) main′ local)
   pub carry : bit (x .s) 3 ≡ k
-  pub summed : P2.Summed a b n main main′ c k
+  pub summed : P2.SumStands a b n main main′ c k
 
 carry-out : (main local : List ℕ) (x : State) (k : Bool) → x .h ≡ one k → bit (summed main local x .s) 3 ≡ k
 unfolding entered sumIn sumOf accessOf nextOf statusOf
 carry-out main local x k h = simp bit-with (rw h (byte-carry k))
 
 -- where every digit is decimal
-pub adds : (n a b : ℕ) (main local : List ℕ) (s : State) (c : Bool) → Entry n a b main local s c → decimalField main a n ≡ true → decimalField main b n ≡ true
+pub adds : (n a b : ℕ) (main local : List ℕ) (s : State) (c : Bool) → AtStart n a b main local s c → decimalField main a n ≡ true → decimalField main b n ≡ true
     → Adds n a b main local s c
 adds zero a b main local s c e da db = absurd (omega (arith, e .fit .some))
 adds (suc n) a b main local s c e da db =
@@ -205,7 +205,7 @@ pub record Spots (n a b : ℕ) (main local : List ℕ) (s : State) : Type 0 wher
   pub place : (x .wx ≡ 0x06) ⊎ (x .wx ≡ 0x08)
 
 -- where one is not
-pub spots : (n a b : ℕ) (main local : List ℕ) (s : State) (c : Bool) → Entry n a b main local s c → decimalField main a n && decimalField main b n ≡ false
+pub spots : (n a b : ℕ) (main local : List ℕ) (s : State) (c : Bool) → AtStart n a b main local s c → decimalField main a n && decimalField main b n ≡ false
     → Spots n a b main local s
 spots zero a b main local s c e d = absurd (omega (arith, e .fit .some))
 spots (suc n) a b main local s c e d =
@@ -217,7 +217,7 @@ spots (suc n) a b main local s c e d =
     (P1.bad main local (λ x. right) (e .fit .fits) n (begun main local s) (begun-ready (suc n) a b main local s c e) bt
     (omega (arith, bu, e .fit .in-b)) (omega (arith, bi, e .fit .in-a)) (rw (bi, bu) d))
   where
-    by : P1.ij (begun main local s) ≡ a → P1.uv (begun main local s) ≡ b → P1.Bad (suc n) main local (begun main local s) → Spots (suc n) a b main local s
+    by : P1.ij (begun main local s) ≡ a → P1.uv (begun main local s) ≡ b → P1.OneBad (suc n) main local (begun main local s) → Spots (suc n) a b main local s
     by bi bu g =
         record {
           x = g .x;
