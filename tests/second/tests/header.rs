@@ -1,0 +1,113 @@
+//! include/panel.h declares what crates/panel exports: the same functions, in the same order, with the same types.
+
+use std::fs;
+use std::path::Path;
+
+/// A function's name, the C types of its parameters, and that of its result.
+type Signature = (String, Vec<String>, String);
+
+fn read(path: &str) -> String {
+    fs::read_to_string(Path::new(env!("CARGO_MANIFEST_DIR")).join("../..").join(path)).expect(path)
+}
+
+/// The text without its comments.
+fn bare(header: &str) -> String {
+    let mut text = String::new();
+    for (k, part) in header.split("/*").enumerate() {
+        text.push_str(if k == 0 { part } else { part.split_once("*/").expect("the end of a comment").1 });
+    }
+    text
+}
+
+/// `const uint8_t *deck` is of the type `const uint8_t *`.
+fn c_type(parameter: &str) -> String {
+    let name_at = parameter.rfind(|c: char| !c.is_alphanumeric() && c != '_').expect("a type before the name");
+    parameter[..=name_at].split_whitespace().collect::<Vec<_>>().join(" ")
+}
+
+fn declared(header: &str) -> Vec<Signature> {
+    let mut found = Vec::new();
+    for statement in bare(header).split(';') {
+        let Some((front, parameters)) = statement.split_once('(') else {
+            continue;
+        };
+        let words: Vec<&str> = front.split_whitespace().collect();
+        let [.., result, name] = words[..] else {
+            continue;
+        };
+        let parameters = parameters.trim_end().trim_end_matches(')');
+        found.push((name.into(), parameters.split(',').map(|p| c_type(p.trim())).collect(), result.into()));
+    }
+    found
+}
+
+fn number(rattle: &str) -> &'static str {
+    match rattle {
+        "u8" => "uint8_t",
+        "u32" => "uint32_t",
+        "u64" => "uint64_t",
+        "usize" => "size_t",
+        other => panic!("a type that the header does not know: {other}"),
+    }
+}
+
+/// A slice passes as a pointer and then a length.
+fn passed(rattle: &str) -> Vec<String> {
+    if let Some(element) = rattle.strip_prefix("&mut [") {
+        return vec![format!("{} *", number(element.trim_end_matches(']'))), "size_t".into()];
+    }
+    if let Some(element) = rattle.strip_prefix("&[") {
+        return vec![format!("const {} *", number(element.trim_end_matches(']'))), "size_t".into()];
+    }
+    vec![number(rattle).into()]
+}
+
+fn exported(source: &str) -> Vec<Signature> {
+    let mut found = Vec::new();
+    for part in source.split("#[no_mangle]\npub extern \"C\" fn ").skip(1) {
+        let (name, rest) = part.split_once('(').expect("parameters");
+        let (parameters, rest) = rest.split_once(") -> ").expect("a result");
+        let result = rest.split_whitespace().next().expect("the result's type");
+        let types = parameters.split(',').map(str::trim).filter(|p| !p.is_empty());
+        let types = types.flat_map(|p| passed(p.split_once(": ").expect("a type").1));
+        found.push((name.into(), types.collect(), number(result).into()));
+    }
+    found
+}
+
+#[test]
+fn the_header_declares_what_the_panel_exports() {
+    let declared = declared(&read("include/panel.h"));
+    assert_eq!(declared.len(), 7);
+    assert_eq!(declared, exported(&read("crates/panel/src/lib.rt")));
+}
+
+/// The names of an enum's constants.
+fn constants(header: &str, name: &str) -> Vec<String> {
+    let body = bare(header);
+    let body =
+        body.split(&format!("enum {name} {{")).nth(1).expect("the enum").split('}').next().expect("its end").to_owned();
+    body.split(',').map(|c| c.split('=').next().expect("a name").trim().to_owned()).filter(|c| !c.is_empty()).collect()
+}
+
+#[test]
+fn the_channels_are_those_of_the_record() {
+    let specs = read("crates/panel/specs/Record.antt");
+    let list = specs.split("channels =\n").nth(1).expect("the list").split("[]").next().expect("its end").to_owned();
+    let listed = list
+        .lines()
+        .filter_map(|line| line.split_once("-- "))
+        .flat_map(|(_, names)| names.split(", ").collect::<Vec<_>>());
+    let mut listed: Vec<String> = listed.map(|name| format!("PANEL_{name}")).collect();
+    listed.push("PANEL_STATE".into());
+    assert_eq!(constants(&read("include/panel.h"), "panel_channel"), listed);
+}
+
+#[test]
+fn the_kinds_are_those_of_the_code() {
+    let source = read("crates/panel/src/lib.rt");
+    for (value, kind) in constants(&read("include/panel.h"), "panel_kind").iter().enumerate() {
+        let constant = format!("const {}: u8 = {value};", kind.trim_start_matches("PANEL_"));
+        assert!(source.contains(&constant), "not in the code: {constant}");
+    }
+}
