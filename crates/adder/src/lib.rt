@@ -129,12 +129,6 @@ fn uncarried(byte: u8) -> Uncorrected
     }
 }
 
-pub(crate) fn one(on: bool) -> u8
-    ensures { λ r. ⌜ r ≡ one on ⌝ }
-{
-    if on { 1 } else { 0 }
-}
-
 // By CC. That 4 to 6 save the carry is the cycle's to do.
 fn operated(cc: u8, s3: bool, decimal: bool, a: u8, turned: u8, entering: u8) -> Uncorrected
     ensures { λ r. ⌜ finished r ≡ operated cc s3 decimal a turned entering ⌝ }
@@ -143,7 +137,7 @@ fn operated(cc: u8, s3: bool, decimal: bool, a: u8, turned: u8, entering: u8) ->
         1 | 5 => summed(decimal, a, entering, 1),
         2 => uncarried(a & turned),
         3 => uncarried(a | turned),
-        6 => summed(decimal, a, entering, one(s3)),
+        6 => summed(decimal, a, entering, digits::one(s3)),
         7 => uncarried(a ^ turned),
         _ => summed(decimal, a, entering, 0),
     }

@@ -1043,7 +1043,7 @@ fn table() -> [u8; 1024]
 fn index(u: Uncorrected) -> usize
     ensures { λ r. ⌜ r ≡ indexOf u ⌝ }
 {
-    512 * crate::one(u.digit_carry) as usize + 256 * crate::one(u.ac) as usize + u.byte as usize
+    512 * digits::one(u.digit_carry) as usize + 256 * digits::one(u.ac) as usize + u.byte as usize
 }
 
 fn corrected(u: Uncorrected) -> u8

@@ -3,12 +3,16 @@ use Prim.Native.Nat.{ℕ}
 use mathlib.Core.Path.{_≡_}
 use mathlib.Core.Bool.{Bool}
 use Rattle.digits.proofs.Sole.{sole}
+use Rattle.digits.proofs.one.Reads as one
 use Rattle.digits.proofs.bit.Reads as bit
 use Rattle.digits.proofs.with_bit.Reads as with-bit
 use Rattle.digits.proofs.both_decimal.Reads as both-decimal
 use Rattle.digits.proofs.first_of.Reads as first-of
 use Rattle.digits.proofs.storage_wrong.Reads as storage-wrong
 use Rattle.digits.proofs.sizes_wrong.Reads as sizes-wrong
+
+pub one-sole : (κs : _) (args : _) (r q : ℕ) (x y : _) → one.Post κs args r x → one.Post κs args q y → r ≡ q
+one-sole κs args r q x y a b = sole (a .0) (b .0)
 
 pub bit-sole : (κs : _) (args : _) (r q : Bool) (x y : _) → bit.Post κs args r x → bit.Post κs args q y → r ≡ q
 bit-sole κs args r q x y a b = sole a b

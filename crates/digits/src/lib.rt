@@ -1,10 +1,17 @@
 // What everything stands on: a byte by its bits and its digits, a refusal before others, and the sizes that 1 asks for.
 ghost use mathlib.Core.Path.{_≡_};
 ghost use mathlib.Core.Bool.{cond};
-ghost use Prim.Native.Nat.{_-_, _^_};
-ghost use Rattle.digits.specs.Bits.{bit, withBit};
+ghost use Prim.Native.Nat.{_-_, _^_, _<_};
+ghost use Rattle.digits.specs.Bits.{one, bit, withBit};
 ghost use Rattle.digits.specs.Digits.{bothDecimal};
 ghost use Rattle.digits.specs.Sizes.{storageWrong, sizesWrong};
+
+// A bit that is on is 1.
+pub fn one(on: bool) -> u8
+    ensures { λ r. ⌜ (r ≡ one on) × (r < 2) ⌝ }
+{
+    if on { 1 } else { 0 }
+}
 
 // How many bits of a byte stand below its bit `n`.
 fn below(n: u8) -> u8

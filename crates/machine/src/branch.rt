@@ -76,18 +76,12 @@ fn w_of(f: Fields, wx: u16) -> u8
     (wx / 256) as u8
 }
 
-fn one(on: bool) -> u16
-    ensures { λ r. ⌜ (r ≡ one on) × (r < 2) ⌝ }
-{
-    if on { 1 } else { 0 }
-}
-
 // The address of the next word.
 pub(crate) fn next_of(f: Fields, s: State) -> u16
     requires { ⌜ f .cn < 64 ⌝ }
     ensures { λ r. ⌜ r ≡ nextOf f s ⌝ }
 {
-    let x6 = one(high_branch(f.ch, s));
-    let x7 = one(low_branch(f.cl, s));
-    w_of(f, s.wx) as u16 * 256 + f.cn as u16 * 4 + x6 * 2 + x7
+    let x6 = digits::one(high_branch(f.ch, s));
+    let x7 = digits::one(low_branch(f.cl, s));
+    w_of(f, s.wx) as u16 * 256 + (f.cn * 4 + x6 * 2 + x7) as u16
 }

@@ -152,7 +152,7 @@ fn added_code(added: Added) -> u64
     ensures { λ r. ⌜ r ≡ addedCode added ⌝ }
 {
     match added {
-        Added::Summed(carry, count) => counted(coded(SUMMED, 0, record::latch(carry)), count),
+        Added::Summed(carry, count) => counted(coded(SUMMED, 0, digits::one(carry)), count),
         Added::BadDigit(count) => counted(coded(BAD_DIGIT, 0, 0), count),
         Added::Refused(number) => counted(coded(REFUSED, number, 0), 0),
     }

@@ -15,13 +15,6 @@ fn pair(high: u8, low: u8) -> u16
     high as u16 * 256 + low as u16
 }
 
-// What a latch shows.
-pub(crate) fn latch(on: bool) -> u8
-    ensures { λ r. ⌜ r ≡ one on ⌝ }
-{
-    if on { 1 } else { 0 }
-}
-
 // The state that a record shows.
 pub(crate) fn load(bytes: &[u8]) -> State
     requires { ⌜ 22 ≤ length (now bytes) ⌝ }
@@ -72,12 +65,12 @@ fn record_of(s: State) -> [u8; 22]
         s.n,
         (s.wx / 256) as u8,
         (s.wx % 256) as u8,
-        latch(s.ac),
-        latch(s.one_bc),
-        latch(s.z0),
-        latch(s.allow_write),
-        latch(s.local_selected),
-        latch(s.arriving),
+        digits::one(s.ac),
+        digits::one(s.one_bc),
+        digits::one(s.z0),
+        digits::one(s.allow_write),
+        digits::one(s.local_selected),
+        digits::one(s.arriving),
         s.arriving_byte,
     ]
 }

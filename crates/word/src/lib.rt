@@ -7,7 +7,7 @@ ghost use lib.Dec.{eqb};
 ghost use Rattle.digits.specs.Line.{join};
 ghost use Rattle.digits.specs.Refusal.{first};
 ghost use Rattle.word.specs.Layout.{widths, lineOf, fieldsOf, line};
-ghost use Rattle.word.specs.Parity.{pnWrong, paWrong, psWrong, pcWrong, pkWrong, caToW, kToW};
+ghost use Rattle.word.specs.Parity.{paWrong, pkWrong, caToW, kToW};
 ghost use Rattle.word.specs.Word.{kChecks, faultOf, takenApart, inWidth, packed};
 use digits::first_of;
 
@@ -81,35 +81,17 @@ fn fields_of(word: u64) -> Fields
     }
 }
 
-// An even number of ones stands under the mask.
+// An even number of ones stands under the mask: the parity is wrong.
 fn even(word: u64, mask: u64) -> bool
     ensures { λ r. ⌜ r ≡ eqb (ones (bitAnd word mask) % 2) 0 ⌝ }
 {
     u64::count_ones(word & mask) % 2 == 0
 }
 
-fn pn_wrong(word: u64) -> bool
-    ensures { λ r. ⌜ r ≡ pnWrong (lineOf word) ⌝ }
-{
-    even(word, PN)
-}
-
 fn pa_wrong(word: u64, address: u32) -> bool
     ensures { λ r. ⌜ r ≡ paWrong address (lineOf word) ⌝ }
 {
     (u32::count_ones(address % 4096) + u64::count_ones(word & PA)) % 2 == 0
-}
-
-fn ps_wrong(word: u64) -> bool
-    ensures { λ r. ⌜ r ≡ psWrong (lineOf word) ⌝ }
-{
-    even(word, PS)
-}
-
-fn pc_wrong(word: u64) -> bool
-    ensures { λ r. ⌜ r ≡ pcWrong (lineOf word) ⌝ }
-{
-    even(word, PC)
 }
 
 // CL = 2: CA is a module number, for W.
@@ -147,10 +129,10 @@ fn k_fault(word: u64) -> u8
 pub fn fault(word: u64, address: u32) -> u8
     ensures { λ r. ⌜ r ≡ faultOf word address ⌝ }
 {
-    let seven = first_of(pc_wrong(word), 7, k_fault(word));
-    let six = first_of(ps_wrong(word), 6, seven);
+    let seven = first_of(even(word, PC), 7, k_fault(word));
+    let six = first_of(even(word, PS), 6, seven);
     let five = first_of(pa_wrong(word, address), 5, six);
-    let four = first_of(pn_wrong(word), 4, five);
+    let four = first_of(even(word, PN), 4, five);
     first_of(0x80_0000_0000_0000 <= word, 3, four)
 }
 

@@ -60,7 +60,7 @@ unfolding arithmetic
 returns-4 c =
     let a = c .before .before .before .args in
     rw (c .before .before .match .keys4)
-    (ap finished (c .summed2 .ensures) ∙ ap (arithmetic (a .decimal) (a .a) (a .entering)) (c .before .one .ensures))
+    (ap finished (c .summed2 .ensures) ∙ ap (arithmetic (a .decimal) (a .a) (a .entering)) (c .before .one .ensures .0))
 
 returns-5 : tie.Need-returns-5
 returns-5 c = rw (c .before .match .keys5) (ap finished (c .uncarried3 .ensures))

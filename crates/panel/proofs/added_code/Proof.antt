@@ -4,7 +4,7 @@ use Rattle.panel.proofs.added_code.Statement.{statement}
 use Rattle.panel.proofs.added_code.Tie as tie
 
 returns : tie.Need-returns
-returns c = rw (c .before .before .before .before .added .given .1, c .counted .ensures, c .before .coded .ensures, c .before .before .latch .ensures)
+returns c = rw (c .before .before .before .before .added .given .1, c .counted .ensures, c .before .coded .ensures, c .before .before .one .ensures .0)
 
 returns-2 : tie.Need-returns-2
 returns-2 c = rw (c .before .before .before .added2 .given .1, c .counted2 .ensures, c .before .coded2 .ensures)

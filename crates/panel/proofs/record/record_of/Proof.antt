@@ -6,7 +6,7 @@ use Rattle.panel.proofs.record.record_of.Tie as tie
 
 returns : tie.Need-returns
 unfolding saved
-returns c = rw (c .before .before .before .before .before .latch .ensures, c .before .before .before .before .latch2 .ensures, c .before .before .before .latch3 .ensures, c .before .before .latch4 .ensures, c .before .latch5 .ensures, c .latch6 .ensures)
+returns c = rw (c .before .before .before .before .before .one .ensures .0, c .before .before .before .before .one2 .ensures .0, c .before .before .before .one3 .ensures .0, c .before .before .one4 .ensures .0, c .before .one5 .ensures .0, c .one6 .ensures .0)
 
 pub record-of-spec : {M : Type 1} → statement M
 record-of-spec =
