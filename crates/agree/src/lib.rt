@@ -28,12 +28,6 @@ pub fn mix(digest: u64, value: u64) -> u64 {
     x ^ (x << 17)
 }
 
-pub fn one(on: bool) -> u64
-    ensures { λ r. ⌜ r < 2 ⌝ }
-{
-    if on { 1 } else { 0 }
-}
-
 fn wide(byte: u8) -> u64 {
     byte as u64
 }
@@ -55,6 +49,33 @@ pub fn fill(x: u64, bytes: &mut [u8]) -> u64 {
         bytes[k] = (x / 256 % 256) as u8;
     }
     x
+}
+
+// How much of each storage is lent.
+pub struct Lent {
+    pub words: usize,
+    pub main: usize,
+    pub local: usize,
+}
+
+// The sizes of one case of 43 are wrong, each in one of six ways.
+pub fn seldom_wrong(which: u64, lent: Lent) -> Lent {
+    let mut l = lent;
+    match which {
+        0 => l.words = 0,
+        1 => l.words = 4097,
+        2 => l.main = 0,
+        3 => l.main = 65537,
+        4 => l.local = 255,
+        5 => l.local = 257,
+        _ => (),
+    }
+    l
+}
+
+// `n` less `m`, or 0.
+pub fn less(n: usize, m: usize) -> usize {
+    if n < m { 0 } else { n - m }
 }
 
 // `n`, or `most` where that is less.

@@ -72,12 +72,12 @@ fn seven(
     arriving: bool,
     byte: u8,
 ) -> u64 {
-    crate::one(ac) * 0x2000
-        + crate::one(one_bc) * 0x1000
-        + crate::one(z0) * 0x800
-        + crate::one(allow) * 0x400
-        + crate::one(local) * 0x200
-        + crate::one(arriving) * 0x100
+    digits::one(ac) as u64 * 0x2000
+        + digits::one(one_bc) as u64 * 0x1000
+        + digits::one(z0) as u64 * 0x800
+        + digits::one(allow) as u64 * 0x400
+        + digits::one(local) as u64 * 0x200
+        + digits::one(arriving) as u64 * 0x100
         + byte as u64
 }
 

@@ -5,10 +5,10 @@ use libc::STDOUT_FILENO;
 
 // All that an adder hands back, as one number.
 fn value(z: Sum) -> u64 {
-    let latches = agree::one(z.ac) * 8
-        + agree::one(z.one_bc) * 4
-        + agree::one(z.z0) * 2
-        + agree::one(z.digit_carry);
+    let latches = digits::one(z.ac) as u64 * 8
+        + digits::one(z.one_bc) as u64 * 4
+        + digits::one(z.z0) as u64 * 2
+        + digits::one(z.digit_carry) as u64;
     z.result as u64 * 65536 + z.uncorrected as u64 * 256 + latches
 }
 

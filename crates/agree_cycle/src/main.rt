@@ -1,4 +1,5 @@
 // Single cycles against tests/second: drawn words, states and storage sizes, by rule and by table.
+use agree::Lent;
 use libc::STDOUT_FILENO;
 use machine::Cycled;
 use machine::State;
@@ -7,9 +8,7 @@ use machine::State;
 struct Trial {
     word: u64,
     state: State,
-    words: usize,
-    main: usize,
-    local: usize,
+    lent: Lent,
 }
 
 // The generator's last number, and the digest.
@@ -37,21 +36,6 @@ fn drawn_wx(words: usize, x: u64) -> u16 {
     (x / 32 % words as u64 % 65536) as u16
 }
 
-// The sizes of one case of 43 are wrong, each in one of six ways.
-fn wrong_size(which: u64, c: Trial) -> Trial {
-    let mut c = c;
-    match which {
-        0 => c.words = 0,
-        1 => c.words = 4097,
-        2 => c.main = 0,
-        3 => c.main = 65537,
-        4 => c.local = 255,
-        5 => c.local = 257,
-        _ => (),
-    }
-    c
-}
-
 fn drawn(a: u64, b: u64, c: u64, e: u64, f: u64, g: u64) -> Trial {
     let words = store_size(f / 0x100);
     let main = main_size(f / 0x800);
@@ -60,16 +44,16 @@ fn drawn(a: u64, b: u64, c: u64, e: u64, f: u64, g: u64) -> Trial {
     let near = agree::near(state);
     let close = (main < 65536) & (f / 0x4000 % 4 != 0);
     let chosen = if close { near } else { state };
-    wrong_size(
-        f % 256,
-        Trial {
-            word: agree::word_for(a, b, f / 0x1_0000, wx as u32 % 4096),
-            state: chosen,
-            words: words,
-            main: main,
-            local: 256,
-        },
-    )
+    let lent = Lent {
+        words: words,
+        main: main,
+        local: 256,
+    };
+    Trial {
+        word: agree::word_for(a, b, f / 0x1_0000, wx as u32 % 4096),
+        state: chosen,
+        lent: agree::seldom_wrong(f % 256, lent),
+    }
 }
 
 fn put(store: &mut [u64], at: usize, word: u64) {
@@ -154,9 +138,9 @@ fn lend_to_rule(
     fields: &mut [u32],
 ) -> u64 {
     put(store, c.state.wx as usize, c.word);
-    let words = agree::at_most(c.words, store.len());
-    let m = agree::at_most(c.main, main.len());
-    let l = agree::at_most(c.local, local.len());
+    let words = agree::at_most(c.lent.words, store.len());
+    let m = agree::at_most(c.lent.main, main.len());
+    let l = agree::at_most(c.lent.local, local.len());
     by_rule(
         digest,
         &store[0..words],
@@ -170,9 +154,9 @@ fn lend_to_rule(
 
 // The same by the table, which has storages of its own.
 fn lend_to_table(c: Trial, digest: u64, store: &[u64], main: &mut [u8], local: &mut [u8]) -> u64 {
-    let words = agree::at_most(c.words, store.len());
-    let m = agree::at_most(c.main, main.len());
-    let l = agree::at_most(c.local, local.len());
+    let words = agree::at_most(c.lent.words, store.len());
+    let m = agree::at_most(c.lent.main, main.len());
+    let l = agree::at_most(c.lent.local, local.len());
     by_table(
         digest,
         &store[0..words],

@@ -58,13 +58,9 @@ fn main_size(x: u64) -> usize {
 fn field_start(main: usize, x: u64) -> usize {
     let place = (x / 4 % 34) as usize;
     if x % 4 == 0 {
-        return less(main, place);
+        return agree::less(main, place);
     }
     place
-}
-
-fn less(n: usize, m: usize) -> usize {
-    if n < m { 0 } else { n - m }
 }
 
 fn drawn_length(x: u64) -> usize {
@@ -132,7 +128,7 @@ fn spoil(main: &mut [u8], start: usize, x: u64) {
 fn mix_added(digest: u64, answer: Added, counts: &mut [u32]) -> u64 {
     match answer {
         Added::Summed(carry, count) => {
-            let out = agree::one(carry);
+            let out = digits::one(carry) as u64;
             agree::tally(counts, out as usize);
             agree::mix(agree::mix(digest, out), count as u64)
         }
@@ -169,7 +165,7 @@ fn fill_low(x: u64, style: u64, main: &mut [u8]) -> u64 {
 
 // And the last 64.
 fn fill_high(x: u64, style: u64, main: &mut [u8]) -> u64 {
-    let from = agree::at_most(less(main.len(), 64), main.len());
+    let from = agree::at_most(agree::less(main.len(), 64), main.len());
     fill_digits(x, style, &mut main[from..])
 }
 
@@ -177,7 +173,7 @@ fn fill_high(x: u64, style: u64, main: &mut [u8]) -> u64 {
 fn mix_ends(digest: u64, main: &[u8], local: &[u8]) -> u64 {
     let low = agree::at_most(300, main.len());
     let d = agree::mix_bytes(digest, &main[0..low]);
-    let from = agree::at_most(less(main.len(), 64), main.len());
+    let from = agree::at_most(agree::less(main.len(), 64), main.len());
     agree::mix_bytes(agree::mix_bytes(d, &main[from..]), local)
 }
 

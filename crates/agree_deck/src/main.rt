@@ -32,16 +32,8 @@ fn bytes_of(words: usize) -> usize {
     0
 }
 
-fn less_one(n: usize) -> usize {
-    if n == 0 { 0 } else { n - 1 }
-}
-
 fn more_one(n: usize) -> usize {
     if n < 100000 { n + 1 } else { n }
-}
-
-fn less_block(n: usize) -> usize {
-    if n < 512 { 0 } else { n - 512 }
 }
 
 fn more_block(n: usize) -> usize {
@@ -55,7 +47,7 @@ fn room_for(n: usize, most: usize, x: u64) -> usize {
         return n;
     }
     if kind < 12 {
-        return less_one(n);
+        return agree::less(n, 1);
     }
     if kind < 13 {
         return 0;
@@ -224,13 +216,13 @@ fn block_of(words: usize, x: u64) -> usize {
 fn length_of(bytes: usize, x: u64) -> usize {
     let kind = x % 32;
     if kind == 0 {
-        return less_one(bytes);
+        return agree::less(bytes, 1);
     }
     if kind == 1 {
         return more_one(bytes);
     }
     if kind == 2 {
-        return less_block(bytes);
+        return agree::less(bytes, 512);
     }
     if kind == 3 {
         return more_block(bytes);

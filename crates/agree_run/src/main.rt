@@ -1,4 +1,5 @@
 // Runs against tests/second: drawn stores, states, sizes and budgets, by rule and by table.
+use agree::Lent;
 use libc::STDOUT_FILENO;
 use machine::State;
 use run::Ending;
@@ -9,9 +10,7 @@ use word::Fields;
 // of any kind, as many again being stops.
 struct Trial {
     state: State,
-    words: usize,
-    main: usize,
-    local: usize,
+    lent: Lent,
     budget: u32,
     rate: u64,
 }
@@ -60,34 +59,19 @@ fn drawn_rate(x: u64) -> u64 {
     [0, 0, 1, 1, 1, 2, 8, 32][(x % 8) as usize]
 }
 
-// The sizes of one run of 43 are wrong, each in one of six ways.
-fn wrong_size(which: u64, t: Trial) -> Trial {
-    let mut t = t;
-    match which {
-        0 => t.words = 0,
-        1 => t.words = 4097,
-        2 => t.main = 0,
-        3 => t.main = 65537,
-        4 => t.local = 255,
-        5 => t.local = 257,
-        _ => (),
-    }
-    t
-}
-
 fn drawn(a: u64, c: u64, e: u64) -> Trial {
     let wx = (a / 0x1_0000_0000 % 256) as u16;
-    wrong_size(
-        a % 256,
-        Trial {
-            state: agree::drawn_state(c, e, wx),
-            words: store_size(a / 0x100),
-            main: main_size(a / 0x800),
-            local: 256,
-            budget: drawn_budget(a / 0x4000, a / 0x100_0000_0000),
-            rate: drawn_rate(a / 0x4_0000),
-        },
-    )
+    let lent = Lent {
+        words: store_size(a / 0x100),
+        main: main_size(a / 0x800),
+        local: 256,
+    };
+    Trial {
+        state: agree::drawn_state(c, e, wx),
+        lent: agree::seldom_wrong(a % 256, lent),
+        budget: drawn_budget(a / 0x4000, a / 0x100_0000_0000),
+        rate: drawn_rate(a / 0x4_0000),
+    }
 }
 
 // A word of a run's store.
@@ -177,9 +161,9 @@ fn lend_to_rule(
     local: &mut [u8],
     counts: &mut [u32],
 ) -> Going {
-    let words = agree::at_most(t.words, store.len());
-    let m = agree::at_most(t.main, main.len());
-    let l = agree::at_most(t.local, local.len());
+    let words = agree::at_most(t.lent.words, store.len());
+    let m = agree::at_most(t.lent.main, main.len());
+    let l = agree::at_most(t.lent.local, local.len());
     by_rule(
         g,
         &store[0..words],
@@ -192,9 +176,9 @@ fn lend_to_rule(
 
 // The same by the table, which has storages of its own.
 fn lend_to_table(t: Trial, digest: u64, store: &[u64], main: &mut [u8], local: &mut [u8]) -> u64 {
-    let words = agree::at_most(t.words, store.len());
-    let m = agree::at_most(t.main, main.len());
-    let l = agree::at_most(t.local, local.len());
+    let words = agree::at_most(t.lent.words, store.len());
+    let m = agree::at_most(t.lent.main, main.len());
+    let l = agree::at_most(t.lent.local, local.len());
     by_table(
         digest,
         &store[0..words],
