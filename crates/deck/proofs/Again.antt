@@ -14,12 +14,12 @@ use Rattle.digits.specs.Line.{join}
 use Rattle.digits.specs.Table.{Each}
 use Rattle.digits.proofs.Lines.{join-parts}
 use Rattle.digits.proofs.Refusals.{None}
-use Rattle.digits.proofs.Table.{any}
+use Rattle.digits.proofs.Table.{any, each-split}
 use Rattle.digits.proofs.Truth.{both}
 use Rattle.deck.specs.Lists.{joined, inTurn, allZero}
 use Rattle.deck.specs.Deck.{headWidths, countIn, wordsIn, unusedIn, headOf, sealed, blockOf, checkOf, checkIn, wordChecks, blockChecks}
 use Rattle.deck.proofs.Through.{Block}
-use Rattle.deck.proofs.Turns.{none-left, none-right, none-both}
+use Rattle.deck.proofs.Turns.{none-both}
 use Rattle.deck.proofs.Blocks.{Good, good, some, full}
 use Rattle.deck.proofs.Decks.{length-words}
 use Rattle.deck.proofs.Written.{check-before, made}
@@ -90,7 +90,9 @@ nothing-or-more (suc n) = inr (omega arith)
 
 pub again : (b all : ℕ) (bs : List (List ℕ)) → Each Block bs → b + length bs ≡ all → all ≤ 67 → None (inTurn (blockChecks all) b bs) → Again b bs
 again b all [] p e m h = record { same = refl; least = omega arith; most = omega arith; total = omega arith; none = tt }
-again b all (gs ∷ bs) p e m h = turn (again (suc b) all bs (p .1) (omega arith) m (none-right (blockChecks all b gs) _ h)) (good all b gs (none-left (blockChecks all b gs) _ h))
+again b all (gs ∷ bs) p e m h = 
+    let (here, later) = each-split _ (blockChecks all b gs) _ h in
+    turn (again (suc b) all bs (p .1) (omega arith) m later) (good all b gs here)
   where
     turn : Again (suc b) bs → Good all b gs → Again b (gs ∷ bs)
     turn i g =

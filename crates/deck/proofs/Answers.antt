@@ -9,13 +9,13 @@ use lib.Dec.{eqb, ltb}
 use lib.ListN.{length, take}
 use lib.Seq.{take-at}
 use Rattle.digits.specs.Refusal.{first, answer}
-use Rattle.digits.proofs.Refusals.{None, refuses, first-none, none-first, given-none}
+use Rattle.digits.proofs.Refusals.{None, refuses, first-none, none-first, given-none, first-append}
+use Rattle.digits.proofs.Table.{each-split}
 use Rattle.digits.proofs.Truth.{zero-one, neither}
 use Rattle.deck.specs.Lists.{inTurn, over}
 use Rattle.deck.specs.Deck.{lengthWrong, wordChecks, deckChecks, blocksOf, wordsOf, readChecks, readOf, wordsAfter, blockCount, deckOf, wordsWrong, writeChecks, writeOf, deckAfter}
 use Rattle.deck.specs.declared.Reading.the-variants as R
 use Rattle.deck.specs.declared.Writing.the-variants as W
-use Rattle.deck.proofs.Turns.{first-append, none-left, none-right}
 use Rattle.deck.proofs.Checks.{words-numbered, blocks-numbered, read-numbered, write-numbered}
 
 -- ---- what a right length is, of a deck and of the words to write
@@ -71,7 +71,7 @@ module _ (deck : List ℕ) (room : ℕ) where
   unfolding readChecks
   read-room e =
       let none = first-none (readChecks deck room) (read-numbered deck room) e in
-      ltb-false room (length (wordsOf deck)) (none-right (deckChecks deck) _ (none .1) .0)
+      ltb-false room (length (wordsOf deck)) (each-split _ (deckChecks deck) _ (none .1) .1 .0)
 
 module _ (deck words : List ℕ) where
   pub refused : (r : ℕ) → r ≡ first (readChecks deck (length words)) → (r ≡ 0 → ⊥) → (R.Refused r ≡ readOf deck (length words)) × (words ≡ wordsAfter deck words)
@@ -103,7 +103,7 @@ module _ (ws : List ℕ) (room : ℕ) where
   unfolding writeChecks
   write-room e =
       let none = first-none (writeChecks ws room) (write-numbered ws room) e in
-      ltb-false room (512 * blockCount (length ws)) (none-right (inTurn wordChecks 0 ws) _ (none .1) .0)
+      ltb-false room (512 * blockCount (length ws)) (each-split _ (inTurn wordChecks 0 ws) _ (none .1) .1 .0)
 
 module _ (ws deck : List ℕ) where
   pub write-refused : (r : ℕ) → r ≡ first (writeChecks ws (length deck)) → (r ≡ 0 → ⊥) → (W.Refused r ≡ writeOf ws (length deck)) × (deck ≡ deckAfter ws deck)
@@ -136,7 +136,7 @@ was-read deck room n e =
     record {
       checks = none-first (readChecks deck room) none;
       length-right = none .0;
-      none = none-left (deckChecks deck) _ (none .1);
+      none = each-split _ (deckChecks deck) _ (none .1) .0;
       fits = read-room deck room (none-first (readChecks deck room) none);
       count = let words : R.Words (length (wordsOf deck)) ≡ R.Words n = same in cc;
     }
@@ -158,6 +158,6 @@ wrote ws room n e =
     record {
       checks = none-first (writeChecks ws room) none;
       length-right = none .0;
-      none = none-left (inTurn wordChecks 0 ws) _ (none .1);
+      none = each-split _ (inTurn wordChecks 0 ws) _ (none .1) .0;
       bytes = let count : W.Bytes (512 * blockCount (length ws)) ≡ W.Bytes n = same in cc;
     }

@@ -14,7 +14,7 @@ use Rattle.digits.proofs.Table.{Below, each-append, each-same, each-take, each-
 use Rattle.deck.specs.Lists.{joined, inTurn, allZero}
 use Rattle.deck.specs.Deck.{numberIn, countIn, reservedIn, wordsIn, unusedIn, checkOf, checkIn, countWrong, headOf, wordChecks, blockChecks, blockOf}
 use Rattle.deck.proofs.Through.{Block}
-use Rattle.deck.proofs.Turns.{none-append, none-take, none-drop}
+use Rattle.deck.proofs.Turns.{none-take, none-drop}
 use Rattle.deck.proofs.Blocks.{Good, none}
 use Rattle.deck.proofs.Written.{made, length-padded, length-block, check-before, check-lt}
 
@@ -130,6 +130,6 @@ holds (suc n) b all ws e w p =
     let rest : Holds n (suc b) all (drop 62 ws) = holds n (suc b) all (drop 62 ws) next (rw a at (none-drop wordChecks ws (62 * b) 62 w)) (each-drop _ 62 ws p) in
     record {
       words = rw (words-of b (take 62 ws) few fits, rest .words) (take-append-drop 62 ws);
-      none = none-append (blockChecks all b (blockOf b (take 62 ws))) (inTurn (blockChecks all) (suc b) (made n (suc b) (drop 62 ws))) (none all b (blockOf b (take 62 ws)) (first-block n b all ws e w)) (rest .none);
+      none = each-append _ (blockChecks all b (blockOf b (take 62 ws))) (inTurn (blockChecks all) (suc b) (made n (suc b) (drop 62 ws))) (none all b (blockOf b (take 62 ws)) (first-block n b all ws e w)) (rest .none);
       blocks = (block b (take 62 ws) few fits (each-take _ 62 ws p), rest .blocks);
     }

@@ -5,11 +5,11 @@ use mathlib.Core.List.{List}
 use lib.Dec.{T}
 use lib.ListN.{length}
 use Rattle.digits.specs.Refusal.{first}
-use Rattle.digits.proofs.Refusals.{numbered}
+use Rattle.digits.proofs.Refusals.{numbered, numbered-append}
 use Rattle.word.specs.Word.{faultOf}
 use Rattle.deck.specs.Lists.{inTurn}
 use Rattle.deck.specs.Deck.{wordChecks, blockChecks, blocksOf, wordsIn, readChecks, writeChecks}
-use Rattle.deck.proofs.Turns.{numbered-append, numbered-turn}
+use Rattle.deck.proofs.Turns.{numbered-turn}
 
 pub word-numbered : (a w : ℕ) → T (numbered (wordChecks a w))
 unfolding wordChecks

@@ -14,8 +14,7 @@ use Rattle.deck.specs.Deck.{groupsOf, blocksOf, bytesOf, wordsIn, wordsO
 use Rattle.deck.specs.declared.Reading.the-variants as R
 use Rattle.deck.specs.declared.Writing.the-variants as W
 use Rattle.digits.specs.Table.{Each}
-use Rattle.digits.proofs.Table.{Below, each}
-use Rattle.deck.proofs.Turns.{none-left, none-right}
+use Rattle.digits.proofs.Table.{Below, each, each-split}
 use Rattle.deck.proofs.Groups.{length-blocks}
 use Rattle.deck.proofs.Answers.{Sized, sized, right-length, right-words, few, read-0, accepted, write-0, write-accepted, Read, was-read, taken, Wrote, wrote}
 use Rattle.deck.proofs.Through.{Block, blocks-bytes, blocks-are, bytes-blocks}
@@ -32,7 +31,7 @@ word-below a w h = omega (arith, leb-false (2 ^ 55) w (h .0))
 
 words-below : (a : ℕ) (ws : List ℕ) → None (inTurn wordChecks a ws) → Below (2 ^ 64) ws
 words-below a [] h = tt
-words-below a (w ∷ ws) h = (word-below a w (none-left (wordChecks a w) _ h), words-below (suc a) ws (none-right (wordChecks a w) _ h))
+words-below a (w ∷ ws) h = let (here, later) = each-split _ (wordChecks a w) _ h in (word-below a w here, words-below (suc a) ws later)
 
 module _ {ws : List ℕ} {room₀ n₀ : ℕ} (w : Wrote ws room₀ n₀) where
   n : ℕ

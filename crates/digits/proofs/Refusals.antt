@@ -2,13 +2,15 @@
 use Prim.Native.Nat.{ℕ, zero, suc, _<_, suc-le-suc}
 use mathlib.Core.Path.{_≡_, refl, ap, subst}
 use mathlib.Core.List.{List, [], _∷_, _++_}
-use mathlib.Core.Bool.{Bool, true, false, _&&_}
+use mathlib.Core.Bool.{Bool, true, false, not, cond, _&&_}
 use mathlib.Core.Logic.{_↔_}
 use native.Mathlib.Nat.{not-suc-le-zero, le-of-suc-le-suc, zero-lt-suc}
 use native.Mathlib.Omega.{arith}
-use lib.Dec.{T, ltb, ltb→lt}
+use borrow.Author.Tests.{ne-eqb}
+use lib.Dec.{T, eqb, ltb, ltb→lt}
 use lib.ListN.{length}
 use mir.Facts.{and-yes}
+use Rattle.digits.specs.Table.{Each}
 use Rattle.digits.specs.Refusal.{Check, first, answer, numberAt, testAt, Given}
 use Rattle.digits.proofs.Truth.{zero-one, true-not-false}
 
@@ -30,8 +32,7 @@ numbered ((suc n, b) ∷ cs) = numbered cs
 
 -- no test of the list holds
 abbrev pub None : List Check → Type 0
-None [] = Unit {0}
-None ((n, b) ∷ cs) = (b ≡ false) × None cs
+None cs = Each (λ (c : Check). c .1 ≡ false) cs
 
 pub none-first : (cs : List Check) → None cs → first cs ≡ 0
 none-first [] h = refl
@@ -117,15 +118,17 @@ given-none refused x y apart cs t = by (first cs) refl
 
 -- ---- one list after another
 
-pub append-none : (xs ys : List Check) → None xs → first (xs ++ ys) ≡ first ys
-append-none [] ys h = refl
-append-none ((n, true) ∷ xs) ys h = absurd (true-not-false refl (h .0))
-append-none ((n, false) ∷ xs) ys h = append-none xs ys (h .1)
+pub numbered-append : (xs ys : List Check) → T (numbered xs) → T (numbered ys) → T (numbered (xs ++ ys))
+numbered-append [] ys s t = t
+numbered-append ((zero, b) ∷ xs) ys s t = absurd s
+numbered-append ((suc n, b) ∷ xs) ys s t = numbered-append xs ys s t
 
-pub append-some : (xs ys : List Check) → (first xs ≡ 0 → ⊥) → first (xs ++ ys) ≡ first xs
-append-some [] ys h = absurd (h refl)
-append-some ((n, true) ∷ xs) ys h = refl
-append-some ((n, false) ∷ xs) ys h = append-some xs ys h
+-- the first number of the first list, else that of the second
+pub first-append : (xs ys : List Check) → T (numbered xs) → first (xs ++ ys) ≡ cond (not (eqb (first xs) 0)) (first xs) (first ys)
+first-append [] ys t = refl
+first-append ((zero, b) ∷ xs) ys t = absurd t
+first-append ((suc n, true) ∷ xs) ys t = rw (ne-eqb (suc n) 0 (λ e. omega arith))
+first-append ((suc n, false) ∷ xs) ys t = first-append xs ys t
 
 -- ---- a bound on the numbers: at a list with its numbers written out this computes
 

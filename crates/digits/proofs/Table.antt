@@ -42,6 +42,10 @@ module _ {A : Type 0} (P : A → Type 0) where
   each-append [] ys p q = q
   each-append (x ∷ xs) ys p q = (p .0, each-append xs ys (p .1) q)
 
+  pub each-split : (xs ys : List A) → Each P (xs ++ ys) → Each P xs × Each P ys
+  each-split [] ys p = (tt, p)
+  each-split (x ∷ xs) ys p = let (left, right) = each-split xs ys (p .1) in ((p .0, left), right)
+
   pub each-same : (n : ℕ) (x : A) → P x → Each P (replicate n x)
   each-same zero x p = tt
   each-same (suc n) x p = (p, each-same n x p)

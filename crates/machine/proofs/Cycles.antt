@@ -8,7 +8,7 @@ use borrow.Author.Tests.{leb-false, ne-eqb}
 use lib.Dec.{leb}
 use lib.ListN.{length}
 use Rattle.digits.specs.Refusal.{Check, first}
-use Rattle.digits.proofs.Refusals.{first-none, append-none, append-some, first-lt}
+use Rattle.digits.proofs.Refusals.{first-append, first-lt}
 use Rattle.digits.proofs.Sizes.{right-storage, right-sizes}
 use Rattle.word.specs.Layout.{lineOf, fieldsOf}
 use Rattle.word.specs.Word.{faultChecks, faultOf, takenApart}
@@ -85,7 +85,7 @@ module _ (store main local : List ℕ) (s : State) where
       on-fault z =
           let f : Fields = fieldsOf (wordAt store s) in
           let faults : List Check = faultChecks (wordAt store s) (s .wx) (lineOf (wordAt store s)) in
-          ap (λ (n : ℕ). decided n (stops f) f main local s) (late ∙ append-some faults (stepChecks f (length main) s) z)
+          ap (λ (n : ℕ). decided n (stops f) f main local s) (late ∙ first-append faults _ tt ∙ rw (ne-eqb (first faults) 0 z))
           ∙ decided-refused (first faults) f main local s (first-lt 10 faults (omega arith) tt) z
 
       pub on-fields : faultOf (wordAt store s) (s .wx) ≡ 0 → cycleOf store main local s ≡ stepOf (fieldsOf (wordAt store s)) main local s
@@ -93,7 +93,7 @@ module _ (store main local : List ℕ) (s : State) where
       on-fields e =
           let f : Fields = fieldsOf (wordAt store s) in
           let faults : List Check = faultChecks (wordAt store s) (s .wx) (lineOf (wordAt store s)) in
-          ap (λ (n : ℕ). decided n (stops f) f main local s) (late ∙ append-none faults (stepChecks f (length main) s) (first-none faults tt e))
+          ap (λ (n : ℕ). decided n (stops f) f main local s) (late ∙ first-append faults _ tt ∙ rw e)
 
 -- by what taking the word apart answers
 module _ (store main local : List ℕ) (s : State) (sizes : sizesWrong (length store) (length main) (length local) ≡ false) (inside : leb (length store) (s .wx) ≡ false) where
