@@ -144,7 +144,7 @@ module _ (main local : List ℕ) (a b n : ℕ) (c : Bool) where
 
   refused-exactly : (number : ℕ) → (comes (first checks) .answer ≡ Refused number) ↔ Given number checks
   refused-exactly number =
-      let e = exactly Refused (answeredAt (runFor main local a b n c .answer)) (λ m k p. cc) (never-refused (runFor main local a b n c .answer)) checks tt number in
+      let e = exactly (record { number = λ m k p. cc; apart = never-refused }) (runFor main local a b n c .answer) checks tt number in
       (λ p. e .0 (sym (the-answer (first checks)) ∙ p), λ g. the-answer (first checks) ∙ e .1 g)
 
   refused-untouched : (k number : ℕ) → comes k .answer ≡ Refused number → Untouched main local (comes k .main) (comes k .local)

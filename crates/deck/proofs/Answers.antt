@@ -1,5 +1,5 @@
 -- What `read` and `write` answer, test by test, and what stands in the room lent. Assumes nothing.
-use Prim.Native.Nat.{ℕ, zero, suc, _*_, _/_, _%_, _<_, _≤_}
+use Prim.Native.Nat.{ℕ, _*_, _/_, _%_, _<_, _≤_}
 use mathlib.Core.Path.{_≡_, refl, sym, ap, _∙_}
 use mathlib.Core.List.{List}
 use mathlib.Core.Bool.{true, false, not, cond}
@@ -8,8 +8,8 @@ use borrow.Author.Tests.{eq-eqb, ne-eqb, eqb-true, eqb-false, ltb-false, lt-ltb,
 use lib.Dec.{eqb, ltb}
 use lib.ListN.{length, take}
 use lib.Seq.{take-at}
-use Rattle.digits.specs.Refusal.{first, answer}
-use Rattle.digits.proofs.Refusals.{None, refuses, first-none, none-first, given-none, first-append}
+use Rattle.digits.specs.Refusal.{first}
+use Rattle.digits.proofs.Refusals.{None, refuses, first-none, none-first, Tells, given-none, first-append}
 use Rattle.digits.proofs.Table.{each-split}
 use Rattle.digits.proofs.Truth.{zero-one, neither}
 use Rattle.deck.specs.Lists.{inTurn, over}
@@ -116,11 +116,11 @@ module _ (ws deck : List ℕ) where
 
 -- ---- the other way: what an answer says of the checks
 
--- a refusal of one answer is a refusal of every answer, by the same number
-pub same-refusal : {A B : Type 0} (refused : ℕ → A) (x : A) → ((m n : ℕ) → refused m ≡ refused n → m ≡ n) → ((n : ℕ) → x ≡ refused n → ⊥)
-    → (f : ℕ → B) (y : B) (k n : ℕ) → answer k refused x ≡ refused n → answer k f y ≡ f n
-same-refusal refused x told apart f y zero n e = absurd (apart n e)
-same-refusal refused x told apart f y (suc k) n e = ap f (told (suc k) n e)
+pub reading-tells : Tells R.Words R.Refused
+reading-tells = record { number = λ m n e. cc; apart = λ w n e. zero-one cc }
+
+pub writing-tells : Tells W.Bytes W.Refused
+writing-tells = record { number = λ m n e. cc; apart = λ b n e. zero-one cc }
 
 pub record Read (deck : List ℕ) (room n : ℕ) : Type 0 where
   pub checks : first (readChecks deck room) ≡ 0
@@ -132,13 +132,13 @@ pub record Read (deck : List ℕ) (room n : ℕ) : Type 0 where
 pub was-read : (deck : List ℕ) (room n : ℕ) → readOf deck room ≡ R.Words n → Read deck room n
 unfolding readOf readChecks
 was-read deck room n e =
-    let (none, same) = given-none R.Refused (R.Words (length (wordsOf deck))) (R.Words n) (λ m r. zero-one cc) (readChecks deck room) (read-numbered deck room) e in
+    let (none, count) = given-none reading-tells (length (wordsOf deck)) n (λ q. cc) (readChecks deck room) (read-numbered deck room) e in
     record {
       checks = none-first (readChecks deck room) none;
       length-right = none .0;
       none = each-split _ (deckChecks deck) _ (none .1) .0;
       fits = read-room deck room (none-first (readChecks deck room) none);
-      count = let words : R.Words (length (wordsOf deck)) ≡ R.Words n = same in cc;
+      count = count;
     }
 
 -- the words stand at the front of the room
@@ -154,10 +154,10 @@ pub record Wrote (ws : List ℕ) (room n : ℕ) : Type 0 where
 pub wrote : (ws : List ℕ) (room n : ℕ) → writeOf ws room ≡ W.Bytes n → Wrote ws room n
 unfolding writeOf writeChecks
 wrote ws room n e =
-    let (none, same) = given-none W.Refused (W.Bytes (512 * blockCount (length ws))) (W.Bytes n) (λ m r. zero-one cc) (writeChecks ws room) (write-numbered ws room) e in
+    let (none, count) = given-none writing-tells (512 * blockCount (length ws)) n (λ q. cc) (writeChecks ws room) (write-numbered ws room) e in
     record {
       checks = none-first (writeChecks ws room) none;
       length-right = none .0;
       none = each-split _ (inTurn wordChecks 0 ws) _ (none .1) .0;
-      bytes = let count : W.Bytes (512 * blockCount (length ws)) ≡ W.Bytes n = same in cc;
+      bytes = count;
     }

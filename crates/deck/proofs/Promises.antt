@@ -7,9 +7,8 @@ use native.Mathlib.Omega.{arith}
 use lib.ListN.{length, getD, length-take, length-drop}
 use denote.Ref.{now}
 use Rattle.digits.specs.Refusal.{first, Given}
-use Rattle.digits.proofs.Refusals.{exactly}
+use Rattle.digits.proofs.Refusals.{exactly, same-refusal}
 use Rattle.digits.proofs.Sole.{sole}
-use Rattle.digits.proofs.Truth.{zero-one}
 use Rattle.deck.specs.Lists.{pieces, over}
 use Rattle.deck.specs.Deck.{countIn, checkOf, blockOf, blocksFor, readChecks, readOf, wordsAfter, wordsOf, blockCount, deckOf, writeChecks, writeOf, deckAfter}
 use Rattle.deck.specs.declared.Reading.{Reading}
@@ -17,7 +16,7 @@ use Rattle.deck.specs.declared.Reading.the-variants as R
 use Rattle.deck.specs.declared.Writing.{Writing}
 use Rattle.deck.specs.declared.Writing.the-variants as W
 use Rattle.deck.proofs.Lists.{length-pieces, pieces-at, placed-at}
-use Rattle.deck.proofs.Answers.{same-refusal}
+use Rattle.deck.proofs.Answers.{reading-tells, writing-tells}
 use Rattle.deck.proofs.Written.{length-made, wordsAt}
 use Rattle.deck.proofs.Back.{count-of}
 use Rattle.deck.proofs.Checks.{read-numbered, write-numbered}
@@ -27,25 +26,23 @@ use Rattle.deck.proofs.write.Reads as write
 -- 15, then block by block 16, 17, 18 and 3 to 9, then 19, of `read`
 pub read-exactly : (deck : List ℕ) (room n : ℕ) → (readOf deck room ≡ R.Refused n) ↔ Given n (readChecks deck room)
 unfolding readOf
-read-exactly deck room =
-    exactly R.Refused (R.Words (length (wordsOf deck))) (λ m n e. cc) (λ n e. zero-one cc) (readChecks deck room) (read-numbered deck room)
+read-exactly deck room = exactly reading-tells (length (wordsOf deck)) (readChecks deck room) (read-numbered deck room)
 
 -- 21, then 3 to 9, then 19, of `write`
 pub write-exactly : (ws : List ℕ) (room n : ℕ) → (writeOf ws room ≡ W.Refused n) ↔ Given n (writeChecks ws room)
 unfolding writeOf
-write-exactly ws room =
-    exactly W.Refused (W.Bytes (512 * blockCount (length ws))) (λ m n e. cc) (λ n e. zero-one cc) (writeChecks ws room) (write-numbered ws room)
+write-exactly ws room = exactly writing-tells (512 * blockCount (length ws)) (writeChecks ws room) (write-numbered ws room)
 
 -- "refused, it writes nothing"
 pub read-nothing : (deck words : List ℕ) (n : ℕ) → readOf deck (length words) ≡ R.Refused n → wordsAfter deck words ≡ words
 unfolding readOf wordsAfter
 read-nothing deck words =
-    same-refusal R.Refused (R.Words (length (wordsOf deck))) (λ m n e. cc) (λ n e. zero-one cc) (λ n. words) (over (wordsOf deck) words) (first (readChecks deck (length words)))
+    same-refusal reading-tells (length (wordsOf deck)) (λ n. words) (over (wordsOf deck) words) (first (readChecks deck (length words)))
 
 pub write-nothing : (ws deck : List ℕ) (n : ℕ) → writeOf ws (length deck) ≡ W.Refused n → deckAfter ws deck ≡ deck
 unfolding writeOf deckAfter
 write-nothing ws deck =
-    same-refusal W.Refused (W.Bytes (512 * blockCount (length ws))) (λ m n e. cc) (λ n e. zero-one cc) (λ n. deck) (over (deckOf ws) deck) (first (writeChecks ws (length deck)))
+    same-refusal writing-tells (512 * blockCount (length ws)) (λ n. deck) (over (deckOf ws) deck) (first (writeChecks ws (length deck)))
 
 -- "4,096 words make 67 blocks, the last with 4."
 pub full-store : (ws : List ℕ) → length ws ≡ 4096 → (length (blocksFor ws) ≡ 67) × (countIn (getD (blocksFor ws) 66 []) ≡ 4)

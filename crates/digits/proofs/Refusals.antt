@@ -1,6 +1,6 @@
 -- "Given exactly when": the one law of lists of checks. Assumes nothing.
 use Prim.Native.Nat.{ℕ, zero, suc, _<_, suc-le-suc}
-use mathlib.Core.Path.{_≡_, refl, ap, subst}
+use mathlib.Core.Path.{_≡_, refl, sym, ap, subst, _∙_}
 use mathlib.Core.List.{List, [], _∷_, _++_}
 use mathlib.Core.Bool.{Bool, true, false, not, cond, _&&_}
 use mathlib.Core.Logic.{_↔_}
@@ -88,33 +88,40 @@ never-0 cs t g = go cs t (g .place) (g .inside) (g .number)
     go ((suc m, b) ∷ l) t zero h e = omega arith
     go ((suc m, b) ∷ l) t (suc i) h e = go l t i (le-of-suc-le-suc h) e
 
--- an answer that refuses gives a number exactly when the list gives it
-module _ {A : Type 0} (refused : ℕ → A) (x : A) (told : (m n : ℕ) → refused m ≡ refused n → m ≡ n) (apart : (n : ℕ) → x ≡ refused n → ⊥) where
-  pub exactly : (cs : List Check) → T (numbered cs) → (n : ℕ) → (answer (first cs) refused x ≡ refused n) ↔ Given n cs
-  exactly cs t n = (to (first cs) refl, λ g. back n g)
+-- a refusal tells its number, and is not what is given where nothing is refused
+pub record Tells {A X : Type 0} (given : X → A) (refused : ℕ → A) : Type 0 where
+  pub number : (m n : ℕ) → refused m ≡ refused n → m ≡ n
+  pub apart : (x : X) (n : ℕ) → given x ≡ refused n → ⊥
+
+module _ {A X : Type 0} {given : X → A} {refused : ℕ → A} (t : Tells given refused) (x : X) where
+  -- an answer refuses by a number exactly when the list gives it
+  pub exactly : (cs : List Check) → T (numbered cs) → (n : ℕ) → (answer (first cs) refused (given x) ≡ refused n) ↔ Given n cs
+  exactly cs h n = (to (first cs) refl, λ g. back n g)
     where
-      to : (k : ℕ) → first cs ≡ k → answer k refused x ≡ refused n → Given n cs
-      to zero e a = absurd (apart n a)
-      to (suc k) e a = subst (λ (m : ℕ). Given m cs) (told (suc k) n a) (first-given cs k e)
+      to : (k : ℕ) → first cs ≡ k → answer k refused (given x) ≡ refused n → Given n cs
+      to zero e a = absurd (t .apart x n a)
+      to (suc k) e a = subst (λ (m : ℕ). Given m cs) (t .number (suc k) n a) (first-given cs k e)
 
-      back : (m : ℕ) → Given m cs → answer (first cs) refused x ≡ refused m
-      back zero g = absurd (never-0 cs t g)
-      back (suc m) g = ap (λ (k : ℕ). answer k refused x) (given-first cs (suc m) g)
+      back : (m : ℕ) → Given m cs → answer (first cs) refused (given x) ≡ refused m
+      back zero g = absurd (never-0 cs h g)
+      back (suc m) g = ap (λ (k : ℕ). answer k refused (given x)) (given-first cs (suc m) g)
 
--- an answer that refuses: its number is the one that was found
-pub given-number : {A : Type 0} (refused : ℕ → A) (x : A) → ((m n : ℕ) → refused m ≡ refused n → m ≡ n) → ((n : ℕ) → x ≡ refused n → ⊥)
-    → (k n : ℕ) → answer k refused x ≡ refused n → (k ≡ n) × (k ≡ 0 → ⊥)
-given-number refused x told apart zero n a = absurd (apart n a)
-given-number refused x told apart (suc k) n a = (told (suc k) n a, λ e. omega arith)
+  -- an answer that refuses: its number is the one that was found
+  pub given-number : (k n : ℕ) → answer k refused (given x) ≡ refused n → (k ≡ n) × (k ≡ 0 → ⊥)
+  given-number zero n a = absurd (t .apart x n a)
+  given-number (suc k) n a = (t .number (suc k) n a, λ e. omega arith)
 
--- an answer that is no refusal: no test of the list holds, and it is the answer that was to be given
-pub given-none : {A : Type 0} (refused : ℕ → A) (x y : A) → ((n : ℕ) → refused n ≡ y → ⊥)
-    → (cs : List Check) → T (numbered cs) → answer (first cs) refused x ≡ y → None cs × (x ≡ y)
-given-none refused x y apart cs t = by (first cs) refl
-  where
-    by : (k : ℕ) → first cs ≡ k → answer k refused x ≡ y → None cs × (x ≡ y)
-    by zero e a = (first-none cs t e, a)
-    by (suc k) e a = absurd (apart (suc k) a)
+  -- and every other answer to the same number refuses by it too
+  pub same-refusal : {B : Type 0} (f : ℕ → B) (y : B) (k n : ℕ) → answer k refused (given x) ≡ refused n → answer k f y ≡ f n
+  same-refusal f y k n a = let (same, some) = given-number k n a in refuses f y k some ∙ ap f same
+
+  -- an answer that is no refusal: no test of the list holds, and it is the answer that was to be given
+  pub given-none : (y : X) → (given x ≡ given y → x ≡ y) → (cs : List Check) → T (numbered cs) → answer (first cs) refused (given x) ≡ given y → None cs × (x ≡ y)
+  given-none y only cs h = by (first cs) refl
+    where
+      by : (k : ℕ) → first cs ≡ k → answer k refused (given x) ≡ given y → None cs × (x ≡ y)
+      by zero e a = (first-none cs h e, only a)
+      by (suc k) e a = absurd (t .apart y (suc k) (sym a))
 
 -- ---- one list after another
 

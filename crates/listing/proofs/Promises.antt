@@ -8,12 +8,12 @@ use borrow.Author.Tests.{ltb-false}
 use lib.ListN.{length, length-append, length-drop}
 use denote.Ref.{now}
 use Rattle.digits.specs.Refusal.{first, answer, Given}
-use Rattle.digits.proofs.Refusals.{exactly, given-none}
+use Rattle.digits.proofs.Refusals.{Tells, exactly, same-refusal, given-none}
 use Rattle.digits.proofs.Sole.{sole}
 use Rattle.digits.proofs.Truth.{zero-one}
 use Rattle.deck.specs.Lists.{over}
 use Rattle.deck.specs.Deck.{readChecks, wordsOf}
-use Rattle.deck.proofs.Answers.{same-refusal, read-room}
+use Rattle.deck.proofs.Answers.{read-room}
 use Rattle.listing.specs.Listing.{textLine, linesOf, zerosInFront, decimal, refusedWord, refusalOf, textOf, textChecks, putOf, roomAfter}
 use Rattle.listing.specs.declared.Listed.{Listed}
 use Rattle.listing.specs.declared.Listed.the-variants as L
@@ -22,24 +22,24 @@ use Rattle.listing.proofs.list.Reads as list
 use Rattle.listing.proofs.refusal.Reads as refusal
 use Rattle.listing.proofs.print.Reads as print
 
+listed-tells : Tells L.Text L.Refused
+listed-tells = record { number = λ m n e. cc; apart = λ t n e. zero-one cc }
+
 -- 19, of `list`, `refusal` and `print`
 pub put-exactly : (text : List ℕ) (room n : ℕ) → (putOf text room ≡ L.Refused n) ↔ Given n (textChecks text room)
 unfolding putOf
-put-exactly text room =
-    exactly L.Refused (L.Text (length text)) (λ m n e. cc) (λ n e. zero-one cc) (textChecks text room) tt
+put-exactly text room = exactly listed-tells (length text) (textChecks text room) tt
 
 -- refused, nothing is written
 pub put-nothing : (text old : List ℕ) (n : ℕ) → putOf text (length old) ≡ L.Refused n → roomAfter text old ≡ old
 unfolding putOf roomAfter
-put-nothing text old =
-    same-refusal L.Refused (L.Text (length text)) (λ m n e. cc) (λ n e. zero-one cc) (λ n. old) (over text old) (first (textChecks text (length old)))
+put-nothing text old = same-refusal listed-tells (length text) (λ n. old) (over text old) (first (textChecks text (length old)))
 
 -- a text that is put lies in the room
 pub put-inside : (text : List ℕ) (room n : ℕ) → putOf text room ≡ L.Text n → n ≤ room
 unfolding putOf
 put-inside text room n e =
-    let (none, same) = given-none L.Refused (L.Text (length text)) (L.Text n) (λ m r. zero-one cc) (textChecks text room) tt e in
-    let size : length text ≡ n = let put : L.Text (length text) ≡ L.Text n = same in cc in
+    let (none, size) = given-none listed-tells (length text) n (λ q. cc) (textChecks text room) tt e in
     let h = ltb-false room (length text) (none .0) in
     omega arith
 

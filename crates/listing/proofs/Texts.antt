@@ -8,11 +8,12 @@ use native.Mathlib.Omega.{arith}
 use borrow.Author.Tests.{lt-ltb, le-ltb}
 use lib.ListN.{length, getD, take, drop, length-append}
 use Rattle.digits.specs.Refusal.{first}
+use Rattle.digits.proofs.Refusals.{same-refusal}
 use Rattle.deck.specs.Lists.{joined, placed, over}
 use Rattle.deck.specs.Deck.{readChecks, readOf, wordsAfter, wordsOf}
 use Rattle.deck.specs.declared.Reading.the-variants as R
 use Rattle.deck.proofs.Lists.{placed-step, placed-end}
-use Rattle.deck.proofs.Answers.{same-refusal, was-read, taken}
+use Rattle.deck.proofs.Answers.{reading-tells, was-read, taken}
 use Rattle.listing.specs.Listing.{textLine, linesOf, refusalOf, textOf, putOf, roomAfter}
 use Rattle.listing.specs.declared.Listed.the-variants as L
 
@@ -78,4 +79,4 @@ text-of-words deck words n l e =
 pub text-of-refusal : (deck : List ℕ) (n : ℕ) → readOf deck 4096 ≡ R.Refused n → refusalOf n ≡ textOf deck
 unfolding readOf textOf
 text-of-refusal deck n e =
-    sym (same-refusal R.Refused (R.Words (length (wordsOf deck))) (λ m k z. cc) (λ k z. let o : _≡_ {A = ℕ} 0 1 = cc in omega arith) refusalOf (linesOf (wordsOf deck)) (first (readChecks deck 4096)) n e)
+    sym (same-refusal reading-tells (length (wordsOf deck)) refusalOf (linesOf (wordsOf deck)) (first (readChecks deck 4096)) n e)

@@ -6,14 +6,14 @@ use Rattle.digits.specs.Line.{join}
 use Rattle.digits.specs.Refusal.{Given}
 use Rattle.digits.proofs.Refusals.{exactly, given-first, first-given}
 use Rattle.digits.proofs.Sole.{sole}
-use Rattle.digits.proofs.Truth.{zero-one}
-use Rattle.word.specs.Layout.{widths, lineOf, named}
+use Rattle.word.specs.Layout.{widths, lineOf, fieldsOf}
 use Rattle.word.specs.Word.{faultChecks, faultOf, apartChecks, takenApart, packChecks, lineWith, packed}
 use Rattle.word.specs.declared.Fields.{Fields}
 use Rattle.word.specs.declared.Apart.{Apart}
 use Rattle.word.specs.declared.Apart.the-variants as A
 use Rattle.word.specs.declared.Packed.{Packed}
 use Rattle.word.specs.declared.Packed.the-variants as P
+use Rattle.word.proofs.Trips.{apart-tells, packed-tells}
 use Rattle.word.proofs.fault.Reads as fault
 use Rattle.word.proofs.take_apart.Reads as take-apart
 use Rattle.word.proofs.pack.Reads as pack
@@ -26,14 +26,12 @@ fault-exactly w a n = (first-given (faultChecks w a (lineOf w)) n, given-first (
 -- 20, then 3 to 9, of `take_apart`
 pub apart-exactly : (w a n : ℕ) → (takenApart w a ≡ A.Refused n) ↔ Given n (apartChecks w a (lineOf w))
 unfolding takenApart
-apart-exactly w a =
-    exactly A.Refused (A.Fields (named (lineOf w))) (λ m n e. cc) (λ n e. zero-one cc) (apartChecks w a (lineOf w)) tt
+apart-exactly w a = exactly apart-tells (fieldsOf w) (apartChecks w a (lineOf w)) tt
 
 -- 20, 8, 9, of `pack`
 pub pack-exactly : (f : Fields) (a n : ℕ) → (packed f a ≡ P.Refused n) ↔ Given n (packChecks f a)
 unfolding packed
-pack-exactly f a =
-    exactly P.Refused (P.Word (join widths (lineWith f a))) (λ m n e. cc) (λ n e. zero-one cc) (packChecks f a) tt
+pack-exactly f a = exactly packed-tells (join widths (lineWith f a)) (packChecks f a) tt
 
 -- ---- no second answer fits: two results that meet one contract at the same arguments are the same
 

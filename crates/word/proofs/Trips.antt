@@ -9,7 +9,7 @@ use borrow.Author.Tests.{le-ltb, lt-leb, leb-false, not-false}
 use Rattle.digits.specs.Line.{parts, join}
 use Rattle.digits.specs.Refusal.{first, answer}
 use Rattle.digits.proofs.Lines.{Fit, join-parts, parts-join, join-lt, fit-true, true-fit, parts-fit}
-use Rattle.digits.proofs.Refusals.{None, none-first, given-none, given-number}
+use Rattle.digits.proofs.Refusals.{None, none-first, Tells, given-none, given-number}
 use Rattle.digits.proofs.Truth.{zero-one, neither}
 use Rattle.word.specs.Layout.{widths, lineOf, field, fieldsOf, line, PN, PA, PS, PC}
 use Rattle.word.specs.Parity.{oddBit, values, pnCovers, paCovers, psCovers, pcCovers}
@@ -41,12 +41,15 @@ width-back w =
 
 -- ---- what an accepted word, and accepted fields, meet
 
+pub apart-tells : Tells A.Fields A.Refused
+apart-tells = record { number = λ m n e. cc; apart = λ f n e. zero-one cc }
+
+pub packed-tells : Tells P.Word P.Refused
+packed-tells = record { number = λ m n e. cc; apart = λ w n e. zero-one cc }
+
 good : (w a : ℕ) (f : Fields) → takenApart w a ≡ A.Fields f → None (apartChecks w a (lineOf w)) × (fieldsOf w ≡ f)
 unfolding takenApart
-good w a f e =
-    let g = given-none A.Refused (A.Fields (fieldsOf w)) (A.Fields f) (λ n r. zero-one cc) (apartChecks w a (lineOf w)) tt e in
-    let same : A.Fields (fieldsOf w) ≡ A.Fields f = g .1 in
-    (g .0, cc)
+good w a f = given-none apart-tells (fieldsOf w) f (λ e. cc) (apartChecks w a (lineOf w)) tt
 
 -- a word that is taken apart is not refused by 3 to 9, and its fields are its own
 pub apart-fields : (w a : ℕ) (f : Fields) → takenApart w a ≡ A.Fields f → (faultOf w a ≡ 0) × (fieldsOf w ≡ f)
@@ -58,16 +61,11 @@ apart-fields w a f e =
 -- a word that is refused at an address of 12 bits is refused by 3 to 9
 pub apart-refused : (w a n : ℕ) → a ≤ 4095 → takenApart w a ≡ A.Refused n → (faultOf w a ≡ n) × (faultOf w a ≡ 0 → ⊥)
 unfolding takenApart faultOf
-apart-refused w a n h e =
-    given-number A.Refused (A.Fields (fieldsOf w)) (λ k m q. cc) (λ m q. zero-one cc) (first (faultChecks w a (lineOf w))) n
-    (rw (le-ltb 4095 a h) at e)
+apart-refused w a n h e = given-number apart-tells (fieldsOf w) (first (faultChecks w a (lineOf w))) n (rw (le-ltb 4095 a h) at e)
 
 sound : (f : Fields) (a w : ℕ) → packed f a ≡ P.Word w → None (packChecks f a) × (join widths (lineWith f a) ≡ w)
 unfolding packed
-sound f a w e =
-    let g = given-none P.Refused (P.Word (join widths (lineWith f a))) (P.Word w) (λ n r. zero-one cc) (packChecks f a) tt e in
-    let same : P.Word (join widths (lineWith f a)) ≡ P.Word w = g .1 in
-    (g .0, cc)
+sound f a w = given-none packed-tells (join widths (lineWith f a)) w (λ e. cc) (packChecks f a) tt
 
 -- ---- the two trips
 
