@@ -26,11 +26,9 @@ pub blocks-numbered : (n b : ℕ) (bs : List (List ℕ)) → T (numbered (inTurn
 blocks-numbered n = numbered-turn (blockChecks n) (block-numbered n)
 
 pub read-numbered : (deck : List ℕ) (room : ℕ) → T (numbered (readChecks deck room))
-unfolding readChecks
 read-numbered deck room = numbered-append (inTurn (blockChecks (length deck / 512)) 0 (blocksOf deck)) _ (blocks-numbered (length deck / 512) 0 (blocksOf deck)) tt
 
 pub write-numbered : (ws : List ℕ) (room : ℕ) → T (numbered (writeChecks ws room))
-unfolding writeChecks
 write-numbered ws room = numbered-append (inTurn wordChecks 0 ws) _ (words-numbered 0 ws) tt
 
 -- what `word::fault` gives is the first of a word's checks

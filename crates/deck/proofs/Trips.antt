@@ -4,19 +4,20 @@ use mathlib.Core.Path.{_≡_, refl, sym, ap, subst, _∙_}
 use mathlib.Core.List.{List, [], _∷_, map}
 use native.Mathlib.Nat.{zero-add}
 use native.Mathlib.Omega.{arith}
-use borrow.Author.Tests.{leb-false}
+use borrow.Author.Tests.{leb-false, le-ltb}
 use lib.ListN.{length, getD, take}
 use lib.Seq.{take-at}
 use Rattle.digits.specs.Refusal.{first}
 use Rattle.digits.proofs.Refusals.{None, none-first}
 use Rattle.deck.specs.Lists.{pieces, inTurn, joined, over}
-use Rattle.deck.specs.Deck.{groupsOf, blocksOf, bytesOf, wordsIn, wordsOf, wordChecks, deckChecks, readChecks, readOf, wordsAfter, blockCount, blocksFor, deckOf, writeChecks, writeOf, deckAfter}
+use Rattle.deck.specs.Deck.{groupsOf, blocksOf, bytesOf, wordsIn, wordsOf, wordChecks, deckChecks, readChecks, readOf, wordsAfter, blockCount, blocksFor, deckOf, wordsWrong, writeChecks, writeOf, deckAfter}
 use Rattle.deck.specs.declared.Reading.the-variants as R
 use Rattle.deck.specs.declared.Writing.the-variants as W
 use Rattle.digits.specs.Table.{Each}
 use Rattle.digits.proofs.Table.{Below, each, each-split}
 use Rattle.deck.proofs.Groups.{length-blocks}
-use Rattle.deck.proofs.Answers.{Sized, sized, right-length, right-words, few, read-0, accepted, write-0, write-accepted, Read, was-read, taken, Wrote, wrote}
+use Rattle.deck.proofs.Checks.{words-numbered}
+use Rattle.deck.proofs.Answers.{Sized, sized, right-length, right-words, few, past, byteCount, read-0, accepted, write-accepted, Read, was-read, taken, Wrote, wrote}
 use Rattle.deck.proofs.Through.{Block, blocks-bytes, blocks-are, bytes-blocks}
 use Rattle.deck.proofs.Written.{made, length-made, length-deck}
 use Rattle.deck.proofs.Back.{Holds, holds}
@@ -81,7 +82,7 @@ written-read ws deck words n e room =
     let w = wrote ws (length deck) n e in
     let back = words-back w in
     let r = accepted (deckOf ws) words (read-back w (length words) room) in
-    let t : take n (deckAfter ws deck) ≡ deckOf ws = ap (take n) (sym (write-accepted ws deck (w .checks) .1)) ∙ take-at (deckOf ws) _ n (length-written w ∙ w .bytes) in
+    let t : take n (deckAfter ws deck) ≡ deckOf ws = ap (take n) (sym (write-accepted ws deck (w .all) .1)) ∙ take-at (deckOf ws) _ n (length-written w ∙ w .count) in
     let x : R.Words (length ws) ≡ readOf (deckOf ws) (length words) = rw back at (r .0) in
     let y : over ws words ≡ wordsAfter (deckOf ws) words = rw back at (r .1) in
     rw t (sym x, sym y)
@@ -138,8 +139,11 @@ module _ {deck : List ℕ} {room₀ n₀ : ℕ} (bytes : Below 256 deck) (r : Re
       let k = length-blocks deck in
       let p = pieced in
       let j = size-again in
-      write-0 (wordsOf deck) room (right-words (length (wordsOf deck)) (omega arith) (omega arith))
-      (rw words-are (none-first (inTurn wordChecks 0 (joined (map wordsIn (blocksOf deck)))) (same .none))) (omega arith)
+      rw (
+        ← past 21 wordsWrong (inTurn wordChecks 0) byteCount (wordsOf deck) room (words-numbered 0 (wordsOf deck)) (right-words (length (wordsOf deck)) (omega arith) (omega arith)),
+        none-first (inTurn wordChecks 0 (wordsOf deck)) (rw words-are (same .none)),
+        le-ltb room (512 * blockCount (length (wordsOf deck))) (omega arith),
+      )
 
 -- "words total at most 4,096"
 pub few-words : (deck words : List ℕ) (n : ℕ) → ((i : ℕ) → getD deck i 0 < 256) → readOf deck (length words) ≡ R.Words n → n ≤ 4096

@@ -113,7 +113,7 @@ abbrev pub roomWrong : ℕ → ℕ → Bool
 roomWrong size room = ltb room size
 
 -- "The reader checks 15, then block by block 16, 17, 18 and words 3 to 9, then 19;"
-unfoldable pub readChecks : List ℕ → ℕ → List Check
+abbrev pub readChecks : List ℕ → ℕ → List Check
 readChecks deck room =
     (15, lengthWrong (length deck)) ∷ (deckChecks deck ++ ((19, roomWrong (length (wordsOf deck)) room) ∷ []))
 
@@ -147,7 +147,7 @@ abbrev pub wordsWrong : ℕ → Bool
 wordsWrong n = eqb n 0 || ltb 4096 n
 
 -- "The writer checks 21, each word by 3 to 9, then 19,"
-unfoldable pub writeChecks : List ℕ → ℕ → List Check
+abbrev pub writeChecks : List ℕ → ℕ → List Check
 writeChecks ws room =
     (21, wordsWrong (length ws)) ∷ (inTurn wordChecks 0 ws ++ ((19, roomWrong (512 * blockCount (length ws)) room) ∷ []))
 

@@ -12,8 +12,8 @@ use Rattle.digits.proofs.Refusals.{Tells, exactly, same-refusal, given-none}
 use Rattle.digits.proofs.Sole.{sole}
 use Rattle.digits.proofs.Truth.{zero-one}
 use Rattle.deck.specs.Lists.{over}
-use Rattle.deck.specs.Deck.{readChecks, wordsOf}
-use Rattle.deck.proofs.Answers.{read-room}
+use Rattle.deck.specs.Deck.{readChecks, readOf, wordsOf}
+use Rattle.deck.proofs.Answers.{was-read}
 use Rattle.listing.specs.Listing.{textLine, linesOf, zerosInFront, decimal, refusedWord, refusalOf, textOf, textChecks, putOf, roomAfter}
 use Rattle.listing.specs.declared.Listed.{Listed}
 use Rattle.listing.specs.declared.Listed.the-variants as L
@@ -53,11 +53,11 @@ refusal-short n =
     omega arith
 
 pub text-short : (deck : List ℕ) → length (textOf deck) ≤ 77824
-unfolding textOf
+unfolding textOf readOf
 text-short deck = by (first (readChecks deck 4096)) refl
   where
     by : (k : ℕ) → first (readChecks deck 4096) ≡ k → length (answer k refusalOf (linesOf (wordsOf deck))) ≤ 77824
-    by zero e = omega (arith, length-lines (wordsOf deck), read-room deck 4096 e)
+    by zero e = omega (arith, length-lines (wordsOf deck), was-read deck 4096 (length (wordsOf deck)) (rw e) .fits)
     by (suc k) e = omega (arith, refusal-short (suc k))
 
 -- ---- texts worked out

@@ -73,7 +73,7 @@ text-of-words deck words n l e =
     let r = was-read deck (length words) n e in
     let fits = r .fits in
     let count = r .count in
-    let c : first (readChecks deck 4096) ≡ 0 = rw l at (r .checks) in
+    let c : first (readChecks deck 4096) ≡ 0 = rw l at (r .all) in
     (omega arith, rw (taken deck words n r, c))
 
 pub text-of-refusal : (deck : List ℕ) (n : ℕ) → readOf deck 4096 ≡ R.Refused n → refusalOf n ≡ textOf deck

@@ -38,5 +38,5 @@ pub write-few : (ws : List ℕ) (room n : ℕ) → writeOf ws room ≡ W.Bytes n
 write-few ws room n e =
     let w = wrote ws room n e in
     let k = few (length ws) (w .length-right) .1 in
-    let c = w .bytes in
+    let c = w .count in
     omega arith

@@ -14,7 +14,7 @@ use Rattle.deck.proofs.Written.{length-deck}
 use Rattle.decimal.specs.Program.{shipped}
 
 accepted : first (writeChecks shipped 512) ≡ 0
-unfolding writeChecks wordChecks shipped packed inWidth ones
+unfolding wordChecks shipped packed inWidth ones
 accepted = refl
 
 one-block : length (deckOf shipped) ≡ 512

@@ -6,7 +6,7 @@ use lib.ListN.{length}
 use borrow.Author.Needs.{needs}
 use Rattle.digits.specs.Refusal.{first}
 use Rattle.deck.specs.Deck.{lengthWrong, deckChecks}
-use Rattle.deck.proofs.Answers.{sized, read-15, read-block, read-19, read-0, refused, accepted}
+use Rattle.deck.proofs.Answers.{sized, read-block, read-19, read-0, refused, accepted}
 use Rattle.deck.proofs.read.Statement.{statement}
 use Rattle.deck.proofs.read.Tie as tie
 
@@ -18,7 +18,7 @@ whole : (c : tie.Else2) → first (deckChecks (c .before .before .before .before
 whole c = sym (c .before .deck-fault .ensures) ∙ c .if2 .left
 
 returns : tie.Need-returns
-returns c = refused _ _ 15 (read-15 _ _ (sym (c .before .length-wrong .ensures) ∙ c .if1 .taken)) (λ e. omega arith)
+returns c = refused _ _ 15 (rw (← c .before .length-wrong .ensures, c .if1 .taken)) (λ e. omega arith)
 
 deck-fault-requires : tie.Need-deck-fault-requires
 deck-fault-requires c κs = sized _ (right c) .most

@@ -4,13 +4,15 @@ use native.Mathlib.Omega.{arith}
 use lib.ListN.{length}
 use borrow.Author.Needs.{needs}
 use Rattle.digits.specs.Refusal.{first}
-use Rattle.deck.specs.Deck.{writeChecks}
-use Rattle.deck.proofs.Answers.{few, write-21, write-first, write-room, write-refused, write-accepted}
+use Rattle.deck.specs.Lists.{inTurn}
+use Rattle.deck.specs.Deck.{wordsWrong, wordChecks, writeChecks}
+use Rattle.deck.proofs.Answers.{few, past, byteCount, write-refused, write-accepted, wrote}
+use Rattle.deck.proofs.Checks.{words-numbered}
 use Rattle.deck.proofs.write.Statement.{statement}
 use Rattle.deck.proofs.write.Tie as tie
 
 returns : tie.Need-returns
-returns c = write-refused _ _ 21 (write-21 _ _ (c .if1 .taken)) (λ e. omega arith)
+returns c = write-refused _ _ 21 (rw (c .if1 .taken)) (λ e. omega arith)
 
 words-fault-requires : tie.Need-words-fault-requires
 words-fault-requires c κs = omega (arith, few (length (c .before .before .before .args .words .now)) (c .if1 .left))
@@ -20,8 +22,10 @@ number : (c : tie.After-first-of2) →
     let a = c .before .before .before .before .before .before .args in
     c .first-of2 .result ≡ first (writeChecks (a .words .now) (length (a .deck .now)))
 number c =
+    let a = c .before .before .before .before .before .before .args in
+    let ws = a .words .now in
     c .first-of2 .ensures
-    ∙ rw (c .before .first-of .ensures, c .before .before .words-fault .ensures) (write-first _ _ (c .before .before .before .if1 .left))
+    ∙ rw (c .before .first-of .ensures, c .before .before .words-fault .ensures) (past 21 wordsWrong (inTurn wordChecks 0) byteCount ws (length (a .deck .now)) (words-numbered 0 ws) (c .before .before .before .if1 .left))
 
 returns-2 : tie.Need-returns-2
 returns-2 c = write-refused _ _ _ (number (c .before)) (c .if2 .taken)
@@ -29,7 +33,8 @@ returns-2 c = write-refused _ _ _ (number (c .before)) (c .if2 .taken)
 put-deck-requires : tie.Need-put-deck-requires
 put-deck-requires c κs =
     let past = c .before in
-    (few _ (past .before .before .before .before .if1 .left) .1, write-room _ _ (sym (number (past .before)) ∙ past .if2 .left))
+    let a = past .before .before .before .before .before .before .before .args in
+    (few _ (past .before .before .before .before .if1 .left) .1, wrote _ _ _ (sym (write-accepted (a .words .now) (a .deck .now) (sym (number (past .before)) ∙ past .if2 .left) .0)) .fits)
 
 returns-3 : tie.Need-returns-3
 returns-3 c =
