@@ -1,11 +1,11 @@
 -- The pieces of a list, and what is made of each element or piece. Assumes nothing.
-use Prim.Native.Nat.{ℕ, zero, suc, _+_, _*_, _<_, _≤_}
+use Prim.Native.Nat.{ℕ, zero, suc, _+_, _*_, _<_}
 use mathlib.Core.Path.{_≡_, refl, sym, ap, subst, _∙_}
 use mathlib.Core.List.{List, [], _∷_, _++_, map}
 use native.Mathlib.Nat.{add-suc, suc-add, add-zero, suc-mul}
 use native.Mathlib.Numerals.{add-one}
 use native.Mathlib.Omega.{arith}
-use lib.ListN.{length, getD, take, drop, length-map, drop-of-length-le}
+use lib.ListN.{length, getD, take, drop, length-map}
 use lib.Seq.{drop-cons, drop-drop}
 use Rattle.deck.specs.Lists.{pieces, joined, placed}
 
@@ -44,13 +44,7 @@ module _ {A B : Type 0} (f : ℕ → A → B) where
   pub placed-step : (l : List A) (d : A) (a i : ℕ) → i < length l → placed f (a + i) (drop i l) ≡ f (a + i) (getD l i d) ∷ placed f (a + (i + 1)) (drop (i + 1) l)
   placed-step l d a i h = rw (drop-cons l i d h, add-one i, add-suc)
 
-  pub placed-end : (l : List A) (a i : ℕ) → length l ≤ i → placed f a (drop i l) ≡ []
-  placed-end l a i h = rw (drop-of-length-le l h)
-
 -- what is left to join
 module _ {A : Type 0} (f : A → List ℕ) where
   pub joined-step : (l : List A) (d : A) (i : ℕ) → i < length l → joined (map f (drop i l)) ≡ f (getD l i d) ++ joined (map f (drop (i + 1) l))
   joined-step l d i h = rw (drop-cons l i d h, add-one)
-
-  pub joined-end : (l : List A) (i : ℕ) → length l ≤ i → joined (map f (drop i l)) ≡ []
-  joined-end l i h = rw (drop-of-length-le l h)

@@ -48,12 +48,9 @@ module _ {ws : List ℕ} {room₀ n₀ : ℕ} (w : Wrote ws room₀ n₀) where
   unfolding blocksFor n
   blocks-are-made = refl
 
-  length-written : length (deckOf ws) ≡ 512 * blockCount (length ws)
-  length-written = let l = length-deck ws in omega arith
-
   count : length (deckOf ws) / 512 ≡ n
   unfolding n
-  count = let l = length-written in omega arith
+  count = let l = length-deck ws in omega arith
 
   blocks : blocksOf (deckOf ws) ≡ made n 0 ws
   unfolding blocksOf deckOf
@@ -71,7 +68,7 @@ module _ {ws : List ℕ} {room₀ n₀ : ℕ} (w : Wrote ws room₀ n₀) where
   unfolding n
   read-back room h =
       let k = few (length ws) (w .length-right) in
-      let l = length-written in
+      let l = length-deck ws in
       read-0 (deckOf ws) room (right-length (length (deckOf ws)) (record { some = λ e. omega arith; whole = omega arith; most = omega arith }))
       (none-first (deckChecks (deckOf ws)) none-back) (subst (λ (m : List ℕ). length m ≤ room) (sym words-back) h)
 
@@ -82,7 +79,7 @@ written-read ws deck words n e room =
     let w = wrote ws (length deck) n e in
     let back = words-back w in
     let r = accepted (deckOf ws) words (read-back w (length words) room) in
-    let t : take n (deckAfter ws deck) ≡ deckOf ws = ap (take n) (sym (write-accepted ws deck (w .all) .1)) ∙ take-at (deckOf ws) _ n (length-written w ∙ w .count) in
+    let t : take n (deckAfter ws deck) ≡ deckOf ws = ap (take n) (sym (write-accepted ws deck (w .all) .1)) ∙ take-at (deckOf ws) _ n (length-deck ws ∙ w .count) in
     let x : R.Words (length ws) ≡ readOf (deckOf ws) (length words) = rw back at (r .0) in
     let y : over ws words ≡ wordsAfter (deckOf ws) words = rw back at (r .1) in
     rw t (sym x, sym y)

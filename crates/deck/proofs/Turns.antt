@@ -1,5 +1,5 @@
 -- The first refusal of the checks of each element in turn. Assumes nothing.
-use Prim.Native.Nat.{ℕ, zero, suc, _+_, _<_, _≤_}
+use Prim.Native.Nat.{ℕ, zero, suc, _+_, _<_}
 use mathlib.Core.Path.{_≡_}
 use mathlib.Core.List.{List, [], _∷_, _++_}
 use native.Mathlib.Nat.{add-suc, suc-add, add-zero}
@@ -11,14 +11,14 @@ use Rattle.digits.specs.Refusal.{Check, first}
 use Rattle.digits.proofs.Refusals.{numbered, None, numbered-append, first-append}
 use Rattle.digits.proofs.Table.{each-append, each-split}
 use Rattle.deck.specs.Lists.{inTurn}
-use Rattle.deck.proofs.Lists.{placed-step, placed-end}
+use Rattle.deck.proofs.Lists.{placed-step}
 
 module _ {A : Type 0} (f : ℕ → A → List Check) where
   pub numbered-turn : ((i : ℕ) (x : A) → T (numbered (f i x))) → (a : ℕ) (l : List A) → T (numbered (inTurn f a l))
   numbered-turn t a [] = tt
   numbered-turn t a (x ∷ l) = numbered-append (f a x) (inTurn f (suc a) l) (t a x) (numbered-turn t (suc a) l)
 
-  -- a loop's turn past an element that is not refused, its stop at one that is, and its end
+  -- a loop's turn past an element that is not refused, and its stop at one that is
   pub turn-step : ((i : ℕ) (x : A) → T (numbered (f i x))) → (d : A) (l : List A) (a i : ℕ) → i < length l → first (f (a + i) (getD l i d)) ≡ 0
       → first (inTurn f (a + (i + 1)) (drop (i + 1) l)) ≡ first (inTurn f (a + i) (drop i l))
   turn-step t d l a i h e = rw (placed-step f l d a i h, first-append (f (a + i) (getD l i d)) _ (t (a + i) (getD l i d)), e)
@@ -27,9 +27,6 @@ module _ {A : Type 0} (f : ℕ → A → List Check) where
       → r ≡ first (inTurn f (a + i) (drop i l))
   turn-stop t d l a i r h e n =
       rw (placed-step f l d a i h, first-append (f (a + i) (getD l i d)) _ (t (a + i) (getD l i d)), ← e, ne-eqb r 0 n)
-
-  pub turn-end : (l : List A) (a i : ℕ) → length l ≤ i → first (inTurn f a (drop i l)) ≡ 0
-  turn-end l a i h = rw (placed-end f l a i h)
 
   -- no refusal, of a part and of the whole
   pub none-take : (l : List A) (a k : ℕ) → None (inTurn f a l) → None (inTurn f a (take k l))

@@ -2,7 +2,7 @@
 use Prim.Native.Nat.{ℕ, zero, suc, _+_, _-_, _%_, _^_, _<_, _≤_}
 use mathlib.Core.Path.{_≡_, refl, sym, ap, _∙_}
 use mathlib.Core.List.{List, [], _∷_, _++_, append-assoc, append-nil}
-use mathlib.Core.Bool.{true, false}
+use mathlib.Core.Bool.{false}
 use native.Mathlib.Numerals.{add-one}
 use native.Mathlib.Omega.{arith}
 use borrow.Author.Tests.{ne-eqb}
@@ -19,9 +19,6 @@ wrap s g t = omega arith
 pub sum-step : (l : List ℕ) (i s : ℕ) → i < length l → ((s + getD l i 0) % 2 ^ 64 + total (drop (i + 1) l)) % 2 ^ 64 ≡ (s + total (drop i l)) % 2 ^ 64
 sum-step l i s h = rw (drop-cons l i 0 h, add-one) (wrap s (getD l i 0) (total (drop (suc i) l)))
 
-pub sum-end : (l : List ℕ) (i s : ℕ) → length l ≤ i → s < 2 ^ 64 → (s + total (drop i l)) % 2 ^ 64 ≡ s
-sum-end l i s h k = rw (drop-of-length-le l h) (omega arith)
-
 -- ---- a search for what is not zero
 
 pub zero-step : (l : List ℕ) (i : ℕ) → i < length l → getD l i 0 ≡ 0 → allZero (drop (i + 1) l) ≡ allZero (drop i l)
@@ -29,9 +26,6 @@ zero-step l i h e = rw (drop-cons l i 0 h, add-one, e)
 
 pub zero-stop : (l : List ℕ) (i : ℕ) → i < length l → (getD l i 0 ≡ 0 → ⊥) → allZero (drop i l) ≡ false
 zero-stop l i h e = rw (drop-cons l i 0 h, ne-eqb (getD l i 0) 0 e)
-
-pub zero-end : (l : List ℕ) (i : ℕ) → length l ≤ i → allZero (drop i l) ≡ true
-zero-end l i h = rw (drop-of-length-le l h)
 
 -- ---- what is put
 
@@ -74,6 +68,11 @@ put-none whole old = record { front = []; place = refl; split = refl; stands = r
 
 pub put-all : {whole old w : List ℕ} {at : ℕ} → Put whole old [] w at → w ≡ over whole old
 put-all {old = old} p = p .stands ∙ ap (λ (l : List ℕ). over l old) (sym (append-nil (p .front)) ∙ p .split)
+
+-- there is room for the piece that is put next
+pub put-room : {whole old rest w : List ℕ} {at : ℕ} → Put whole old rest w at → (new left : List ℕ) → rest ≡ new ++ left → at + length new ≤ length whole
+put-room {rest = rest} p new left r =
+    omega (arith, p .place, ap length (p .split), length-append (p .front) rest, ap length r, length-append new left)
 
 -- one piece more: k are lent at the place, and come back as `new`
 pub put-turn : {whole old rest w : List ℕ} {at : ℕ} → Put whole old rest w at → (new left x : List ℕ) (k : ℕ) → rest ≡ new ++ left → length new ≡ k → x ≡ new → length whole ≤ length old

@@ -1,6 +1,6 @@
 -- A block and a deck as they are made. Assumes nothing.
 use Prim.Native.Nat.{ℕ, zero, suc, min, _+_, _-_, _*_, _^_, _<_, _≤_}
-use mathlib.Core.Path.{_≡_, refl, sym, ap, subst, _∙_}
+use mathlib.Core.Path.{_≡_, refl, ap, _∙_}
 use mathlib.Core.List.{List, [], _∷_, _++_, map}
 use native.Mathlib.Nat.{zero-add, mod-lt}
 use native.Mathlib.Omega.{arith}
@@ -10,7 +10,7 @@ use lib.Seq.{set-at, take-at, take-all}
 use Rattle.digits.specs.Line.{total}
 use Rattle.deck.specs.Lists.{pieces, joined, placed}
 use Rattle.deck.specs.Deck.{bytesOf, checkOf, blockOf, blockCount, blocksFor, deckOf}
-use Rattle.deck.proofs.Lists.{length-pieces, pieces-at, placed-step, placed-end}
+use Rattle.deck.proofs.Lists.{length-pieces, pieces-at, placed-step}
 use Rattle.deck.proofs.Groups.{length-bytes}
 
 pub drop-zeros : (k n : ℕ) → drop k (replicate {A = ℕ} n 0) ≡ replicate (n - k) 0
@@ -49,13 +49,13 @@ pub length-made : (n b : ℕ) (ws : List ℕ) → length (made n b ws) ≡ n
 length-made zero b ws = refl
 length-made (suc n) b ws = ap suc (length-made n (suc b) (drop 62 ws))
 
-length-made-bytes : (n b : ℕ) (ws : List ℕ) → length (joined (map bytesOf (made n b ws))) ≡ n * 512
+length-made-bytes : (n b : ℕ) (ws : List ℕ) → length (joined (map bytesOf (made n b ws))) ≡ 512 * n
 length-made-bytes zero b ws = omega arith
 length-made-bytes (suc n) b ws =
     length-append (bytesOf (blockOf b (take 62 ws))) _
     ∙ rw (length-block-bytes b (take 62 ws) (rw length-take (omega arith)), length-made-bytes n (suc b) (drop 62 ws)) (omega arith)
 
-pub length-deck : (ws : List ℕ) → length (deckOf ws) ≡ blockCount (length ws) * 512
+pub length-deck : (ws : List ℕ) → length (deckOf ws) ≡ 512 * blockCount (length ws)
 unfolding deckOf blocksFor
 length-deck ws = length-made-bytes (blockCount (length ws)) 0 ws
 
@@ -82,6 +82,3 @@ restOf ws n b = joined (map bytesOf (placed blockOf (0 + b) (drop b (pieces 62 n
 pub rest-step : (ws : List ℕ) (n b : ℕ) → b < n → restOf ws n b ≡ bytesOf (blockOf b (wordsAt ws b)) ++ restOf ws n (b + 1)
 rest-step ws n b h =
     rw (placed-step blockOf (pieces 62 n ws) [] 0 b (rw length-pieces h), pieces-at 62 n ws b h, zero-add b)
-
-pub rest-end : (ws : List ℕ) (n b : ℕ) → n ≤ b → restOf ws n b ≡ []
-rest-end ws n b h = rw (placed-end blockOf (pieces 62 n ws) (0 + b) b (subst (λ (m : ℕ). m ≤ b) (sym (length-pieces 62 n ws)) h))

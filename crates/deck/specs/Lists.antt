@@ -1,10 +1,9 @@
--- A list in pieces, and the checks of its elements one after the other. Assumes nothing.
+-- A list in pieces, and what is made of its elements one after the other. Assumes nothing.
 use Prim.Native.Nat.{ℕ, zero, suc, _+_}
 use mathlib.Core.List.{List, [], _∷_, _++_}
 use mathlib.Core.Bool.{Bool, true, _&&_}
 use lib.ListN.{take, drop, length}
 use lib.Dec.{eqb}
-use Rattle.digits.specs.Refusal.{Check}
 
 -- n pieces of k each; the last may have fewer
 abbrev pub pieces : {A : Type 0} → ℕ → ℕ → List A → List (List A)
@@ -21,9 +20,9 @@ abbrev pub placed : {A B : Type 0} → (ℕ → A → B) → ℕ → List A → 
 placed f i [] = []
 placed f i (x ∷ xs) = f i x ∷ placed f (suc i) xs
 
--- the checks of each element at its place, one after the other
-abbrev pub inTurn : {A : Type 0} → (ℕ → A → List Check) → ℕ → List A → List Check
-inTurn checks i l = joined (placed checks i l)
+-- what is made of each element at its place, one after the other
+abbrev pub inTurn : {A B : Type 0} → (ℕ → A → List B) → ℕ → List A → List B
+inTurn f i l = joined (placed f i l)
 
 abbrev pub allZero : List ℕ → Bool
 allZero [] = true

@@ -9,10 +9,10 @@ use borrow.Author.Tests.{lt-ltb, le-ltb}
 use lib.ListN.{length, getD, take, drop, length-append}
 use Rattle.digits.specs.Refusal.{first}
 use Rattle.digits.proofs.Refusals.{same-refusal}
-use Rattle.deck.specs.Lists.{joined, placed, over}
+use Rattle.deck.specs.Lists.{inTurn, over}
 use Rattle.deck.specs.Deck.{readChecks, readOf, wordsAfter, wordsOf}
 use Rattle.deck.specs.declared.Reading.the-variants as R
-use Rattle.deck.proofs.Lists.{placed-step, placed-end}
+use Rattle.deck.proofs.Lists.{placed-step}
 use Rattle.deck.proofs.Answers.{reading-tells, was-read, taken}
 use Rattle.listing.specs.Listing.{textLine, linesOf, refusalOf, textOf, putOf, roomAfter}
 use Rattle.listing.specs.declared.Listed.the-variants as L
@@ -27,7 +27,7 @@ pub length-line : (a w : ℕ) → length (textLine a w) ≡ 19
 unfolding textLine
 length-line a w = refl
 
-length-from : (a : ℕ) (ws : List ℕ) → length (joined (placed textLine a ws)) ≡ 19 * length ws
+length-from : (a : ℕ) (ws : List ℕ) → length (inTurn textLine a ws) ≡ 19 * length ws
 length-from a [] = refl
 length-from a (w ∷ ws) = length-append (textLine a w) _ ∙ rw (length-line a w, length-from (suc a) ws) (omega arith)
 
@@ -37,13 +37,10 @@ length-lines ws = length-from 0 ws
 
 -- the lines from word i on
 abbrev pub restOf : List ℕ → ℕ → List ℕ
-restOf ws i = joined (placed textLine (0 + i) (drop i ws))
+restOf ws i = inTurn textLine (0 + i) (drop i ws)
 
 pub rest-step : (ws : List ℕ) (i : ℕ) → i < length ws → restOf ws i ≡ textLine i (getD ws i 0) ++ restOf ws (i + 1)
 rest-step ws i h = rw (placed-step textLine ws 0 0 i h, zero-add i)
-
-pub rest-end : (ws : List ℕ) (i : ℕ) → length ws ≤ i → restOf ws i ≡ []
-rest-end ws i h = rw (placed-end textLine ws (0 + i) i h)
 
 -- ---- a text in a room that is too small, and in one that is not
 

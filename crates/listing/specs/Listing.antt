@@ -5,7 +5,7 @@ use mathlib.Core.Bool.{cond}
 use lib.Dec.{ltb}
 use lib.ListN.{length, drop}
 use Rattle.digits.specs.Refusal.{Check, first, answer}
-use Rattle.deck.specs.Lists.{joined, placed, over}
+use Rattle.deck.specs.Lists.{inTurn, over}
 use Rattle.deck.specs.Number.{digitsOf}
 use Rattle.deck.specs.Deck.{readChecks, roomWrong, wordsOf}
 use Rattle.listing.specs.declared.Listed.{Listed}
@@ -24,7 +24,7 @@ textLine address word = hexadecimal 3 address ++ (32 ∷ (hexadecimal 14 word ++
 
 -- "No header."
 unfoldable pub linesOf : List ℕ → List ℕ
-linesOf ws = joined (placed textLine 0 ws)
+linesOf ws = inTurn textLine 0 ws
 
 -- "the number in decimal": the three digits of a byte, without the zeros in front
 abbrev pub zerosInFront : ℕ → ℕ

@@ -85,7 +85,7 @@ module _ (store main local : List ℕ) (s : State) where
       on-fault z =
           let f : Fields = fieldsOf (wordAt store s) in
           let faults : List Check = faultChecks (wordAt store s) (s .wx) (lineOf (wordAt store s)) in
-          ap (λ (n : ℕ). decided n (stops f) f main local s) {y = first faults} (late ∙ first-append faults _ tt ∙ rw (ne-eqb (first faults) 0 z))
+          ap (λ (n : ℕ). decided n (stops f) f main local s) {y = first faults} (late ∙ first-append faults (stepChecks f (length main) s) tt ∙ rw (ne-eqb (first faults) 0 z))
           ∙ decided-refused (first faults) f main local s (first-lt 10 faults (omega arith) tt) z
 
       pub on-fields : faultOf (wordAt store s) (s .wx) ≡ 0 → cycleOf store main local s ≡ stepOf (fieldsOf (wordAt store s)) main local s
@@ -93,7 +93,7 @@ module _ (store main local : List ℕ) (s : State) where
       on-fields e =
           let f : Fields = fieldsOf (wordAt store s) in
           let faults : List Check = faultChecks (wordAt store s) (s .wx) (lineOf (wordAt store s)) in
-          ap (λ (n : ℕ). decided n (stops f) f main local s) {y = first (stepChecks f (length main) s)} (late ∙ first-append faults _ tt ∙ rw e)
+          ap (λ (n : ℕ). decided n (stops f) f main local s) {y = first (stepChecks f (length main) s)} (late ∙ first-append faults (stepChecks f (length main) s) tt ∙ rw e)
 
 -- by what taking the word apart answers
 module _ (store main local : List ℕ) (s : State) (sizes : sizesWrong (length store) (length main) (length local) ≡ false) (inside : leb (length store) (s .wx) ≡ false) where

@@ -4,11 +4,10 @@ use mathlib.Core.Path.{_≡_, refl, ap, _∙_}
 use mathlib.Core.List.{map}
 use native.Mathlib.Nat.{zero-add, add-sub-cancel-left}
 use native.Mathlib.Omega.{arith}
-use lib.ListN.{length, drop, length-take, length-drop, length-append}
+use lib.ListN.{length, drop, length-take, length-drop, length-append, drop-of-length-le}
 use borrow.Author.Needs.{needs}
 use Rattle.deck.specs.Lists.{joined}
 use Rattle.deck.specs.Deck.{blocksOf, countIn, wordsIn, wordsOf}
-use Rattle.deck.proofs.Lists.{joined-end}
 use Rattle.deck.proofs.Groups.{length-groups, length-blocks}
 use Rattle.deck.proofs.Decks.{block, length-words, some-at, words-step}
 use Rattle.deck.proofs.count_words.Statement.{statement}
@@ -48,7 +47,7 @@ returns : tie.Need-returns Inv-loop μ-loop
 returns c =
     let l = c .before .loop in
     let deck = c .before .before .before .args .deck .now in
-    let e = ap length (joined-end wordsIn (blocksOf deck) (l .b) (rw length-blocks (omega arith))) in
+    let e = rw (drop-of-length-le (blocksOf deck) {i = l .b} (rw length-blocks (omega arith))) at (l .inv .3) in
     omega arith
 
 pub count-words-spec : {M : Type 1} → statement M

@@ -4,12 +4,12 @@ use mathlib.Core.Path.{_≡_, refl, sym, _∙_}
 use mathlib.Core.List.{[]}
 use native.Mathlib.Nat.{zero-add, add-sub-cancel-left}
 use native.Mathlib.Omega.{arith}
-use lib.ListN.{length, getD, drop, length-take, length-drop}
+use lib.ListN.{length, getD, drop, length-take, length-drop, drop-of-length-le}
 use borrow.Author.Needs.{needs}
 use Rattle.digits.specs.Refusal.{first}
 use Rattle.deck.specs.Lists.{inTurn}
 use Rattle.deck.specs.Deck.{blocksOf, blockChecks, deckChecks}
-use Rattle.deck.proofs.Turns.{turn-step, turn-stop, turn-end}
+use Rattle.deck.proofs.Turns.{turn-step, turn-stop}
 use Rattle.deck.proofs.Checks.{block-numbered}
 use Rattle.deck.proofs.Groups.{length-blocks, blocks-at}
 use Rattle.deck.proofs.deck_fault.Statement.{statement}
@@ -53,7 +53,7 @@ returns-2 : tie.Need-returns-2 Inv-loop μ-loop
 returns-2 c =
     let l = c .before .loop in
     let deck = c .before .before .before .args .deck .now in
-    sym (turn-end (blockChecks (length deck / 512)) (blocksOf deck) (0 + l .b) (l .b) (rw length-blocks (omega arith))) ∙ l .inv .2
+    rw (drop-of-length-le (blocksOf deck) {i = l .b} (rw length-blocks (omega arith))) at (l .inv .2)
 
 pub deck-fault-spec : {M : Type 1} → statement M
 deck-fault-spec =

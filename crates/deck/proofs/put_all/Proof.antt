@@ -4,14 +4,13 @@ use mathlib.Core.Path.{_≡_, refl, _∙_}
 use mathlib.Core.List.{_++_, map}
 use native.Mathlib.Nat.{add-sub-cancel-left}
 use native.Mathlib.Omega.{arith}
-use lib.ListN.{length, take, drop, length-take, length-drop}
+use lib.ListN.{length, take, drop, length-take, length-drop, drop-of-length-le}
 use borrow.Author.Needs.{needs}
 use Rattle.deck.specs.Lists.{joined}
 use Rattle.deck.specs.Deck.{blocksOf, countIn, wordsIn, wordsOf}
-use Rattle.deck.proofs.Walks.{Put, put-none, put-turn, put-all}
-use Rattle.deck.proofs.Lists.{joined-end}
+use Rattle.deck.proofs.Walks.{Put, put-none, put-room, put-turn, put-all}
 use Rattle.deck.proofs.Groups.{length-groups, length-blocks}
-use Rattle.deck.proofs.Decks.{block, length-words, some-at, words-step, room}
+use Rattle.deck.proofs.Decks.{block, length-words, some-at, words-step}
 use Rattle.deck.proofs.put_all.Statement.{statement}
 use Rattle.deck.proofs.put_all.Tie as tie
 
@@ -39,7 +38,8 @@ put-words-requires c κs =
     let l = c .before .before .before .before .loop in
     let deck = s .args .deck .now in
     let k = some-at deck (l .b) (omega arith) (s .pre .0 .1) in
-    let r = room deck (l .b) (omega arith) (l .inv .2 .front) (l .inv .2 .split) (k .1) in
+    let w = length-words (block deck (l .b)) (length-groups _) (k .1) in
+    let r = put-room (l .inv .2) (wordsIn (block deck (l .b))) _ (words-step deck (l .b) (omega arith)) in
     rw (is-block (c .before)) (k .1, omega arith)
 
 loop-again : tie.Need-loop-again Inv-loop μ-loop
@@ -60,7 +60,7 @@ returns : tie.Need-returns Inv-loop μ-loop
 returns c =
     let l = c .before .loop in
     let deck = c .before .before .before .before .args .deck .now in
-    put-all (rw (joined-end wordsIn (blocksOf deck) (l .b) (rw length-blocks (omega arith))) at (l .inv .2))
+    put-all (rw (drop-of-length-le (blocksOf deck) {i = l .b} (rw length-blocks (omega arith))) at (l .inv .2))
 
 pub put-all-spec : {M : Type 1} → statement M
 put-all-spec =

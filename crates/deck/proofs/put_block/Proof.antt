@@ -4,14 +4,14 @@ use mathlib.Core.Path.{_≡_, refl, _∙_}
 use mathlib.Core.List.{map}
 use native.Mathlib.Nat.{add-sub-cancel-left}
 use native.Mathlib.Omega.{arith}
-use lib.ListN.{length, getD, take, drop, length-take, length-drop}
+use lib.ListN.{length, getD, take, drop, length-take, length-drop, drop-of-length-le}
 use borrow.Author.Needs.{needs}
 use Rattle.deck.specs.Lists.{joined}
 use Rattle.deck.specs.Number.{digitsOf}
 use Rattle.deck.specs.Deck.{bytesOf}
 use Rattle.deck.proofs.Walks.{Put, put-none, put-turn, put-all, over-full}
 use Rattle.deck.proofs.Groups.{length-bytes}
-use Rattle.deck.proofs.Lists.{joined-step, joined-end}
+use Rattle.deck.proofs.Lists.{joined-step}
 use Rattle.deck.proofs.put_block.Statement.{statement}
 use Rattle.deck.proofs.put_block.Tie as tie
 
@@ -42,7 +42,7 @@ returns : tie.Need-returns Inv-loop μ-loop
 returns c =
     let l = c .before .loop in
     let s = c .before .before .before in
-    let p = rw (joined-end (digitsOf 8 8) (s .args .t1) (l .i) (omega arith)) at (l .inv .1) in
+    let p = rw (drop-of-length-le (s .args .t1) {i = l .i} (omega arith)) at (l .inv .1) in
     put-all p ∙ over-full (bytesOf (s .args .t1)) (s .args .out .now) (omega (arith, length-bytes (s .args .t1)))
 
 pub put-block-spec : {M : Type 1} → statement M

@@ -3,11 +3,13 @@ use Prim.Native.Nat.{_+_, _-_, _*_, _≤_}
 use mathlib.Core.Path.{_≡_, refl, ap, _∙_}
 use native.Mathlib.Nat.{add-sub-cancel-left}
 use native.Mathlib.Omega.{arith}
-use lib.ListN.{length, drop, length-take, length-drop}
+use lib.ListN.{length, drop, length-take, length-drop, drop-of-length-le}
 use borrow.Author.Needs.{needs}
+use Rattle.deck.specs.Lists.{pieces}
 use Rattle.deck.specs.Deck.{bytesOf, blockOf, blockCount, blocksFor, deckOf}
+use Rattle.deck.proofs.Lists.{length-pieces}
 use Rattle.deck.proofs.Walks.{Put, put-none, put-turn, put-all}
-use Rattle.deck.proofs.Written.{wordsAt, length-at, restOf, rest-step, rest-end, short, length-block-bytes, length-deck}
+use Rattle.deck.proofs.Written.{wordsAt, length-at, restOf, rest-step, short, length-block-bytes, length-deck}
 use Rattle.deck.proofs.put_deck.Statement.{statement}
 use Rattle.deck.proofs.put_deck.Tie as tie
 
@@ -57,7 +59,7 @@ returns : tie.Need-returns Inv-loop μ-loop
 returns c =
     let l = c .before .loop in
     let ws = c .before .before .before .before .args .words .now in
-    put-all (rw (rest-end ws (blockCount (length ws)) (l .b) (omega arith)) at (l .inv .2))
+    put-all (rw (drop-of-length-le (pieces 62 (blockCount (length ws)) ws) {i = l .b} (rw length-pieces (omega arith))) at (l .inv .2))
 
 pub put-deck-spec : {M : Type 1} → statement M
 put-deck-spec =

@@ -3,12 +3,12 @@ use Prim.Native.Nat.{ℕ, _+_, _-_}
 use mathlib.Core.Path.{_≡_, sym, ap, _∙_}
 use mathlib.Core.Bool.{not}
 use native.Mathlib.Omega.{arith}
-use lib.ListN.{length, drop, take, length-take}
+use lib.ListN.{length, drop, take, length-take, drop-of-length-le}
 use lib.Seq.{getD-take, length-take-le}
 use borrow.Author.Needs.{needs}
 use Rattle.deck.specs.Lists.{allZero}
 use Rattle.deck.specs.Deck.{unusedIn}
-use Rattle.deck.proofs.Walks.{zero-step, zero-stop, zero-end}
+use Rattle.deck.proofs.Walks.{zero-step, zero-stop}
 use Rattle.deck.proofs.unused_wrong.Statement.{statement}
 use Rattle.deck.proofs.unused_wrong.Tie as tie
 
@@ -40,7 +40,7 @@ returns-2 : tie.Need-returns-2 Inv-loop μ-loop
 returns-2 c =
     let l = c .before .loop in
     let gs = c .before .before .before .args .t1 in
-    ap not (sym (zero-end (take 63 gs) (l .unused) (omega (arith, length-take 63 gs))) ∙ l .inv)
+    ap not (rw (drop-of-length-le (take 63 gs) {i = l .unused} (omega (arith, length-take 63 gs))) at (l .inv))
 
 pub unused-wrong-spec : {M : Type 1} → statement M
 unused-wrong-spec =

@@ -3,12 +3,12 @@ use Prim.Native.Nat.{_+_, _-_, _≤_}
 use mathlib.Core.Path.{_≡_, sym, _∙_}
 use native.Mathlib.Nat.{add-zero}
 use native.Mathlib.Omega.{arith}
-use lib.ListN.{length, drop}
+use lib.ListN.{length, drop, drop-of-length-le}
 use borrow.Author.Needs.{needs}
 use Rattle.digits.specs.Refusal.{first}
 use Rattle.deck.specs.Lists.{inTurn}
 use Rattle.deck.specs.Deck.{wordChecks}
-use Rattle.deck.proofs.Turns.{turn-step, turn-stop, turn-end}
+use Rattle.deck.proofs.Turns.{turn-step, turn-stop}
 use Rattle.deck.proofs.Checks.{word-numbered, fault-is}
 use Rattle.deck.proofs.words_fault.Statement.{statement}
 use Rattle.deck.proofs.words_fault.Tie as tie
@@ -34,7 +34,8 @@ loop-again c =
 
 returns-2 : tie.Need-returns-2 Inv-loop μ-loop
 returns-2 c =
-    sym (turn-end wordChecks _ _ (c .before .loop .i) (omega arith)) ∙ c .before .loop .inv .1
+    let l = c .before .loop in
+    rw (drop-of-length-le (c .before .before .before .args .words .now) {i = l .i} (omega arith)) at (l .inv .1)
 
 pub words-fault-spec : {M : Type 1} → statement M
 words-fault-spec =

@@ -3,11 +3,11 @@ use Prim.Native.Nat.{_+_, _-_, _*_, _≤_}
 use mathlib.Core.Path.{_≡_, _∙_}
 use native.Mathlib.Nat.{add-sub-cancel-left}
 use native.Mathlib.Omega.{arith}
-use lib.ListN.{length, getD, take, drop, length-take, length-drop}
+use lib.ListN.{length, getD, take, drop, length-take, length-drop, drop-of-length-le}
 use borrow.Author.Needs.{needs}
 use Rattle.deck.proofs.Walks.{over-full, Put, put-none, put-turn, put-all}
 use Rattle.listing.specs.Listing.{textLine, linesOf}
-use Rattle.listing.proofs.Texts.{length-line, length-lines, restOf, rest-step, rest-end}
+use Rattle.listing.proofs.Texts.{length-line, length-lines, restOf, rest-step}
 use Rattle.listing.proofs.put_lines.Statement.{statement}
 use Rattle.listing.proofs.put_lines.Tie as tie
 
@@ -39,7 +39,7 @@ returns : tie.Need-returns Inv-loop μ-loop
 returns c =
     let l = c .before .loop in
     let ws = c .before .before .before .before .args .words .now in
-    put-all (rw (rest-end ws (l .i) (omega arith)) at (l .inv .1))
+    put-all (rw (drop-of-length-le ws {i = l .i} (omega arith)) at (l .inv .1))
 
 pub put-lines-spec : {M : Type 1} → statement M
 put-lines-spec =
