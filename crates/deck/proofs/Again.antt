@@ -1,10 +1,10 @@
 -- An accepted deck: its blocks are the blocks of its words. Assumes nothing.
-use Prim.Native.Nat.{ℕ, zero, suc, _+_, _-_, _*_, _^_, _<_, _≤_}
+use Prim.Native.Nat.{ℕ, suc, _+_, _-_, _*_, _^_, _<_, _≤_}
 use mathlib.Core.Path.{_≡_, refl, sym, ap, ap₂, _∙_}
 use mathlib.Core.List.{List, [], _∷_, _++_, map, append-nil}
 use mathlib.Core.Bool.{true}
-use mathlib.Core.Logic.{_⊎_, inl, inr, ⊎-elim}
-use native.Mathlib.Nat.{mod-eq-of-lt}
+use mathlib.Core.Logic.{⊎-elim}
+use native.Mathlib.Nat.{mod-eq-of-lt, eq-zero-or-pos}
 use native.Mathlib.Omega.{arith}
 use borrow.Author.Tests.{eqb-true, ne-eqb}
 use lib.Dec.{eqb}
@@ -84,10 +84,6 @@ no-words : (bs : List (List ℕ)) → length bs ≡ 0 → words bs ≡ []
 no-words [] e = refl
 no-words (gs ∷ bs) e = absurd (omega arith)
 
-nothing-or-more : (n : ℕ) → (n ≡ 0) ⊎ (0 < n)
-nothing-or-more zero = inl refl
-nothing-or-more (suc n) = inr (omega arith)
-
 pub again : (b all : ℕ) (bs : List (List ℕ)) → Each Block bs → b + length bs ≡ all → all ≤ 67 → None (inTurn (blockChecks all) b bs) → Again b bs
 again b all [] p e m h = record { same = refl; least = omega arith; most = omega arith; total = omega arith; none = tt }
 again b all (gs ∷ bs) p e m h = 
@@ -109,8 +105,8 @@ again b all (gs ∷ bs) p e m h =
         let next : 0 < n → None (inTurn wordChecks (62 * b + length (wordsIn gs)) ws) = λ q. let f = fill q in let z : 62 * b + length (wordsIn gs) ≡ 62 * suc b = omega arith in rw z (i .none) in
         record {
           same = rw (c .0, c .1, block-again all b gs (p .0) g, i .same);
-          least = ⊎-elim (λ q. omega arith) (λ q. let f = fill q in let lo = i .least in omega arith) (nothing-or-more n);
+          least = ⊎-elim (λ q. omega arith) (λ q. let f = fill q in let lo = i .least in omega arith) (eq-zero-or-pos n);
           most = omega arith;
-          total = ⊎-elim (λ q. omega arith) (λ q. let f = fill q in let to = i .total in omega arith) (nothing-or-more n);
-          none = none-both wordChecks (wordsIn gs) ws (62 * b) (g .words) (⊎-elim last next (nothing-or-more n));
+          total = ⊎-elim (λ q. omega arith) (λ q. let f = fill q in let to = i .total in omega arith) (eq-zero-or-pos n);
+          none = none-both wordChecks (wordsIn gs) ws (62 * b) (g .words) (⊎-elim last next (eq-zero-or-pos n));
         }

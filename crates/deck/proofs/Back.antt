@@ -49,7 +49,7 @@ module _ (b : ℕ) (ws : List ℕ) (few : b < 67) (fits : length ws ≤ 62) wher
   unfolding blockOf
   reserved-of = omega arith
 
-  pub words-of : wordsIn (blockOf b ws) ≡ ws
+  words-of : wordsIn (blockOf b ws) ≡ ws
   unfolding blockOf
   words-of =
       ap (λ (k : ℕ). take k (drop 1 (blockOf b ws))) count-of
@@ -67,7 +67,7 @@ module _ (b : ℕ) (ws : List ℕ) (few : b < 67) (fits : length ws ≤ 62) wher
   check-of =
       rw front-first (check-before front (checkOf front ∷ []) length-front ∙ sym (getD-at front (checkOf front) [] 0 63 length-front))
 
-  pub block : Below (2 ^ 64) ws → Block (blockOf b ws)
+  block : Below (2 ^ 64) ws → Block (blockOf b ws)
   unfolding blockOf
   block p = (
     length-block b ws fits,

@@ -60,7 +60,7 @@ module _ (n b : ℕ) (gs : List ℕ) where
         unused = not-false (allZero (unusedIn gs)) unused;
       }
 
-  pub shape : Shaped → shapeWrong n b gs ≡ false
+  shape : Shaped → shapeWrong n b gs ≡ false
   shape s = rw (s .count, le-ltb 4096 (62 * b + countIn gs) (s .total), eq-eqb (reservedIn gs) 0 (s .reserved), s .unused)
 
   -- what a block is that is not refused

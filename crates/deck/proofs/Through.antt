@@ -15,7 +15,7 @@ use Rattle.deck.proofs.Number.{length-digits, number-digits, digits-num
 use Rattle.deck.proofs.Groups.{length-groups, length-bytes}
 
 -- what holds of every piece
-pub each-piece : {A : Type 0} (P : A → Type 0) (f : List ℕ → A) (k m : ℕ) → ((p : List ℕ) → length p ≡ k → Below m p → P (f p))
+each-piece : {A : Type 0} (P : A → Type 0) (f : List ℕ → A) (k m : ℕ) → ((p : List ℕ) → length p ≡ k → Below m p → P (f p))
     → (n : ℕ) (l : List ℕ) → length l ≡ n * k → Below m l → Each P (map f (pieces k n l))
 each-piece P f k m h zero l e p = tt
 each-piece P f k m h (suc n) l e p =
@@ -26,16 +26,16 @@ each-piece P f k m h (suc n) l e p =
 
 module _ {A : Type 0} (spell : A → List ℕ) (read : List ℕ → A) (k : ℕ) where
   -- an element that is spelled in k and read again is the same
-  abbrev pub Kept : A → Type 0
+  abbrev Kept : A → Type 0
   Kept x = (length (spell x) ≡ k) × (read (spell x) ≡ x)
 
-  pub there : (l : List A) → Each Kept l → map read (pieces k (length l) (joined (map spell l))) ≡ l
+  there : (l : List A) → Each Kept l → map read (pieces k (length l) (joined (map spell l))) ≡ l
   there [] p = refl
   there (x ∷ l) p =
       let rest = joined (map spell l) in
       rw (take-at (spell x) rest k (p .0 .0), drop-at (spell x) rest k (p .0 .0), p .0 .1, there l (p .1))
 
-  pub back : (m : ℕ) → ((p : List ℕ) → length p ≡ k → Below m p → spell (read p) ≡ p)
+  back : (m : ℕ) → ((p : List ℕ) → length p ≡ k → Below m p → spell (read p) ≡ p)
       → (n : ℕ) (l : List ℕ) → length l ≡ n * k → Below m l → joined (map spell (map read (pieces k n l))) ≡ l
   back m same zero [] e p = refl
   back m same zero (x ∷ l) e p = absurd (let z : 0 * k ≡ 0 = omega arith in omega arith)
@@ -52,11 +52,11 @@ kept-group : (gs : List ℕ) → Below (2 ^ 64) gs → Each (Kept (digitsOf 8 8)
 kept-group [] p = tt
 kept-group (g ∷ gs) p = ((length-digits 8 8 g, number-digits 8 8 g (p .0)), kept-group gs (p .1))
 
-pub groups-bytes : (gs : List ℕ) → length gs ≡ 64 → Below (2 ^ 64) gs → groupsOf (bytesOf gs) ≡ gs
+groups-bytes : (gs : List ℕ) → length gs ≡ 64 → Below (2 ^ 64) gs → groupsOf (bytesOf gs) ≡ gs
 unfolding groupsOf bytesOf
 groups-bytes gs e p = rw e at (there (digitsOf 8 8) (numberOf 8) 8 gs (kept-group gs p))
 
-pub bytes-groups : (block : List ℕ) → length block ≡ 512 → Below 256 block → bytesOf (groupsOf block) ≡ block
+bytes-groups : (block : List ℕ) → length block ≡ 512 → Below 256 block → bytesOf (groupsOf block) ≡ block
 unfolding groupsOf bytesOf
 bytes-groups block e p = back (digitsOf 8 8) (numberOf 8) 8 256 (digits-number 8 8) 64 block e p
 
@@ -75,7 +75,7 @@ kept-block (gs ∷ bs) p =
 pub blocks-bytes : (bs : List (List ℕ)) → Each Block bs → map groupsOf (pieces 512 (length bs) (joined (map bytesOf bs))) ≡ bs
 blocks-bytes bs p = there bytesOf groupsOf 512 bs (kept-block bs p)
 
-pub groups-block : (block : List ℕ) → length block ≡ 512 → Below 256 block → Block (groupsOf block)
+groups-block : (block : List ℕ) → length block ≡ 512 → Below 256 block → Block (groupsOf block)
 unfolding groupsOf
 groups-block block e p = (length-groups block, each-piece (λ (g : ℕ). g < 2 ^ 64) (numberOf 8) 8 256 (number-lt 8 8) 64 block e p)
 

@@ -3,11 +3,12 @@ use Prim.Native.Nat.{ℕ, zero, suc, _+_, _-_, _%_, _^_, _<_, _≤_}
 use mathlib.Core.Path.{_≡_, refl, sym, ap, _∙_}
 use mathlib.Core.List.{List, [], _∷_, _++_, append-assoc, append-nil}
 use mathlib.Core.Bool.{false}
+use native.Mathlib.Nat.{zero-add}
 use native.Mathlib.Numerals.{add-one}
 use native.Mathlib.Omega.{arith}
 use borrow.Author.Tests.{ne-eqb}
 use lib.ListN.{length, getD, take, drop, set, length-append, length-drop, length-set, drop-of-length-le}
-use lib.Seq.{drop-cons, drop-drop, take-append-seam, drop-append-seam, getD-set-same, drop-set-lt}
+use lib.Seq.{drop-cons, drop-drop, take-append-seam, drop-append-seam, getD-set-same, drop-set-lt, paste-suc}
 use Rattle.digits.specs.Line.{total}
 use Rattle.deck.specs.Lists.{allZero, over}
 
@@ -30,15 +31,9 @@ zero-stop l i h e = rw (drop-cons l i 0 h, ne-eqb (getD l i 0) 0 e)
 -- ---- what is put
 
 -- a store at the end of a copy
-copy-suc : (from to : List ℕ) (i : ℕ) → i < length from → i < length to → set (take i from ++ drop i to) i (getD from i 0) ≡ take (suc i) from ++ drop (suc i) to
-copy-suc [] to i h k = absurd (omega arith)
-copy-suc (x ∷ xs) [] i h k = absurd (omega arith)
-copy-suc (x ∷ xs) (y ∷ ys) zero h k = refl
-copy-suc (x ∷ xs) (y ∷ ys) (suc i) h k = ap (λ (l : List ℕ). x ∷ l) (copy-suc xs ys i (omega arith) (omega arith))
-
 pub copy-step : (from to : List ℕ) (i v : ℕ) → i < length from → i < length to → v ≡ getD from i 0
     → set (take i from ++ drop i to) i v ≡ take (i + 1) from ++ drop (i + 1) to
-copy-step from to i v h k e = rw (e, add-one) (copy-suc from to i h k)
+copy-step from to i v h k e = rw (e, add-one) (rw (zero-add i, zero-add (suc i)) at (paste-suc to 0 from i 0 (rw zero-add k) h))
 
 -- a store in front of what is put: `all` is still to put before it, and `ds` after it
 pub put-before : (ds all out : List ℕ) (i x : ℕ) → 0 < i → i ≤ length out → all ≡ ds ++ (x ∷ []) → ds ++ drop (i - 1) (set out (i - 1) x) ≡ all ++ drop i out

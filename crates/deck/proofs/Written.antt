@@ -1,12 +1,12 @@
 -- A block and a deck as they are made. Assumes nothing.
 use Prim.Native.Nat.{ℕ, zero, suc, min, _+_, _-_, _*_, _^_, _<_, _≤_}
-use mathlib.Core.Path.{_≡_, refl, ap, _∙_}
-use mathlib.Core.List.{List, [], _∷_, _++_, map}
+use mathlib.Core.Path.{_≡_, refl, sym, ap, _∙_}
+use mathlib.Core.List.{List, [], _++_, map}
 use native.Mathlib.Nat.{zero-add, mod-lt}
 use native.Mathlib.Omega.{arith}
 use lib.Pow.{pow-pos}
-use lib.ListN.{length, take, drop, set, replicate, length-append, length-replicate, length-take}
-use lib.Seq.{set-at, take-at, take-all}
+use lib.ListN.{length, take, drop, replicate, length-append, length-replicate, length-take, take-append-drop}
+use lib.Seq.{take-at, take-all}
 use Rattle.digits.specs.Line.{total}
 use Rattle.deck.specs.Lists.{pieces, joined, placed}
 use Rattle.deck.specs.Deck.{bytesOf, checkOf, blockOf, blockCount, blocksFor, deckOf}
@@ -29,9 +29,6 @@ check-before gs rest e = rw (take-at gs rest 63 e, take-all 63 gs (omega arith))
 pub check-lt : (gs : List ℕ) → checkOf gs < 2 ^ 64
 unfolding checkOf
 check-lt gs = mod-lt (total (take 63 gs)) (pow-pos 64)
-
-pub seal-in : (h : ℕ) (ys : List ℕ) (s : ℕ) → length ys ≡ 62 → set (h ∷ (ys ++ (0 ∷ []))) 63 s ≡ (h ∷ ys) ++ (s ∷ [])
-seal-in h ys s e = set-at (h ∷ ys) 0 [] s 63 (ap suc e)
 
 pub length-block : (b : ℕ) (ws : List ℕ) → length ws ≤ 62 → length (blockOf b ws) ≡ 64
 unfolding blockOf
@@ -69,12 +66,7 @@ length-at ws b = rw length-take (omega arith)
 
 -- as many as there are, up to k
 pub short : (m k : ℕ) (l : List ℕ) → m ≡ min k (length l) → take m l ≡ take k l
-short zero zero l e = refl
-short zero (suc k) [] e = refl
-short zero (suc k) (x ∷ l) e = absurd (omega arith)
-short (suc m) zero l e = absurd (omega arith)
-short (suc m) (suc k) [] e = refl
-short (suc m) (suc k) (x ∷ l) e = ap (λ (r : List ℕ). x ∷ r) (short m k l (omega arith))
+short m k l e = rw (take-append-drop k l) at (take-at (take k l) (drop k l) m (length-take k l ∙ sym e))
 
 abbrev pub restOf : List ℕ → ℕ → ℕ → List ℕ
 restOf ws n b = joined (map bytesOf (placed blockOf (0 + b) (drop b (pieces 62 n ws))))

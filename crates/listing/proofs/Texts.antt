@@ -1,7 +1,7 @@
 -- Lines, and a text in the room lent. Assumes nothing.
 use Prim.Native.Nat.{ℕ, suc, _+_, _-_, _*_, _<_, _≤_}
-use mathlib.Core.Path.{_≡_, refl, sym, ap, _∙_}
-use mathlib.Core.List.{List, [], _∷_, _++_, map}
+use mathlib.Core.Path.{_≡_, refl, sym, _∙_}
+use mathlib.Core.List.{List, [], _∷_, _++_}
 use mathlib.Core.Bool.{Bool, true, false, cond}
 use native.Mathlib.Nat.{zero-add}
 use native.Mathlib.Omega.{arith}
@@ -16,10 +16,6 @@ use Rattle.deck.proofs.Lists.{placed-step}
 use Rattle.deck.proofs.Answers.{reading-tells, was-read, taken}
 use Rattle.listing.specs.Listing.{textLine, linesOf, refusalOf, textOf, putOf, roomAfter}
 use Rattle.listing.specs.declared.Listed.the-variants as L
-
-pub map-last : (f : ℕ → ℕ) (l : List ℕ) (x : ℕ) → map f (l ++ (x ∷ [])) ≡ map f l ++ (f x ∷ [])
-map-last f [] x = refl
-map-last f (y ∷ l) x = ap (λ (r : List ℕ). f y ∷ r) (map-last f l x)
 
 -- ---- lines
 

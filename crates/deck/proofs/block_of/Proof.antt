@@ -4,9 +4,10 @@ use mathlib.Core.Path.{_≡_, ap, _∙_}
 use mathlib.Core.List.{List, [], _∷_, _++_}
 use native.Mathlib.Omega.{arith}
 use lib.ListN.{length, replicate}
+use lib.Seq.{set-at}
 use borrow.Author.Needs.{needs}
 use Rattle.deck.specs.Deck.{headOf, checkOf, blockOf}
-use Rattle.deck.proofs.Written.{drop-zeros, length-padded, check-before, seal-in}
+use Rattle.deck.proofs.Written.{drop-zeros, length-padded, check-before}
 use Rattle.deck.proofs.block_of.Statement.{statement}
 use Rattle.deck.proofs.block_of.Tie as tie
 
@@ -21,7 +22,7 @@ returns c =
     let n : length ys ≡ 62 = length-padded ws (omega arith) in
     let s : c .block-check .result ≡ checkOf (headOf (a .b) (length ws) ∷ ys) =
     (rw (h, y) at (c .block-check .ensures)) ∙ check-before (headOf (a .b) (length ws) ∷ ys) (0 ∷ []) (ap suc n) in
-    rw (h, y, s) (seal-in (headOf (a .b) (length ws)) ys _ n)
+    rw (h, y, s) (set-at (headOf (a .b) (length ws) ∷ ys) 0 [] _ 63 (ap suc n))
 
 pub block-of-spec : {M : Type 1} → statement M
 block-of-spec =

@@ -1,7 +1,7 @@
 -- From the low end: the digits still to put, before those that are put. Assumes nothing.
 use Prim.Native.Nat.{_-_, _/_, _%_, _≤_}
 use mathlib.Core.Path.{_≡_, refl, ap, _∙_}
-use mathlib.Core.List.{[], _∷_, _++_, map, append-nil}
+use mathlib.Core.List.{[], _∷_, _++_, map, map-append, append-nil}
 use native.Mathlib.Omega.{arith}
 use lib.ListN.{length, drop, length-set}
 use lib.Seq.{drop-length}
@@ -10,7 +10,6 @@ use Rattle.deck.specs.Number.{digitsOf}
 use Rattle.deck.proofs.Number.{digits-last}
 use Rattle.deck.proofs.Walks.{put-before}
 use Rattle.listing.specs.Listing.{capital, hexadecimal}
-use Rattle.listing.proofs.Texts.{map-last}
 use Rattle.listing.proofs.put_hexadecimal.Statement.{statement}
 use Rattle.listing.proofs.put_hexadecimal.Tie as tie
 
@@ -26,7 +25,7 @@ loop-again c =
     let all = hexadecimal (l .i) (l .rest) in
     let ds = hexadecimal (l .i - 1) (l .rest / 16) in
     let x : all ≡ ds ++ (c .capital .result ∷ []) =
-    ap (map capital) (digits-last 4 (l .i) (l .rest) (omega arith)) ∙ rw (c .capital .ensures) (map-last capital (digitsOf 4 (l .i - 1) (l .rest / 16)) (l .rest % 16)) in
+    ap (map capital) (digits-last 4 (l .i) (l .rest) (omega arith)) ∙ rw (c .capital .ensures) (map-append capital (digitsOf 4 (l .i - 1) (l .rest / 16)) (l .rest % 16 ∷ [])) in
     (search needs, simp length-set (l .inv .1), put-before ds all (l .out) (l .i) (c .capital .result) (omega arith) (omega arith) x ∙ l .inv .2)
 
 returns : tie.Need-returns Inv-loop μ-loop
