@@ -46,6 +46,7 @@ few n h =
 -- ---- a test of a list's length, then other checks of it, then 19
 
 module _ (n : ℕ) (wrong : ℕ → Bool) (checks : List ℕ → List Check) (size : List ℕ → ℕ) where
+  -- the checks of a list, for a room
   abbrev pub around : List ℕ → ℕ → List Check
   around l room = (n, wrong (length l)) ∷ (checks l ++ ((19, roomWrong (size l) room) ∷ []))
 
@@ -62,6 +63,7 @@ module _ (n : ℕ) (wrong : ℕ → Bool) (checks : List ℕ → List Check) (si
     pub fits : size l ≤ room
     pub count : size l ≡ m
 
+  -- no test holds, and the count is m
   passed : (l : List ℕ) (room m : ℕ) → None (around l room) × (size l ≡ m) → Passed l room m
   passed l room m (none, count) =
       let (before, last) = each-split _ (checks l) _ (none .1) in
@@ -101,9 +103,11 @@ module _ (deck words : List ℕ) where
   unfolding readOf wordsAfter
   accepted e = rw e (refl, refl)
 
+-- a refusal tells its number, and is no number of words
 pub reading-tells : Tells R.Words R.Refused
 reading-tells = record { number = λ m n e. cc; apart = λ w n e. zero-one cc }
 
+-- what an answer of n words says
 abbrev pub Read : List ℕ → ℕ → ℕ → Type 0
 Read = Passed 15 lengthWrong deckChecks wordCount
 
@@ -128,9 +132,11 @@ module _ (ws deck : List ℕ) where
   unfolding writeOf deckAfter
   write-accepted e = rw e (refl, refl)
 
+-- a refusal tells its number, and is no number of bytes
 pub writing-tells : Tells W.Bytes W.Refused
 writing-tells = record { number = λ m n e. cc; apart = λ b n e. zero-one cc }
 
+-- what an answer of n bytes says
 abbrev pub Wrote : List ℕ → ℕ → ℕ → Type 0
 Wrote = Passed 21 wordsWrong (inTurn wordChecks 0) byteCount
 

@@ -10,7 +10,7 @@ use Rattle.deck.specs.Lists.{pieces, joined}
 use Rattle.deck.specs.Number.{digitsOf, numberOf}
 use Rattle.deck.specs.Deck.{groupsOf, bytesOf}
 use Rattle.digits.specs.Table.{Each}
-use Rattle.digits.proofs.Table.{Below, each-take, each-drop}
+use Rattle.digits.proofs.Table.{Below, each-into, each-take, each-drop}
 use Rattle.deck.proofs.Number.{length-digits, number-digits, digits-number, number-lt}
 use Rattle.deck.proofs.Groups.{length-groups, length-bytes}
 
@@ -48,13 +48,9 @@ module _ {A : Type 0} (spell : A → List ℕ) (read : List ℕ → A) (k : ℕ)
 
 -- ---- a block's groups through its bytes
 
-kept-group : (gs : List ℕ) → Below (2 ^ 64) gs → Each (Kept (digitsOf 8 8) (numberOf 8) 8) gs
-kept-group [] p = tt
-kept-group (g ∷ gs) p = ((length-digits 8 8 g, number-digits 8 8 g (p .0)), kept-group gs (p .1))
-
 groups-bytes : (gs : List ℕ) → length gs ≡ 64 → Below (2 ^ 64) gs → groupsOf (bytesOf gs) ≡ gs
 unfolding groupsOf bytesOf
-groups-bytes gs e p = rw e at (there (digitsOf 8 8) (numberOf 8) 8 gs (kept-group gs p))
+groups-bytes gs e p = rw e at (there (digitsOf 8 8) (numberOf 8) 8 gs (each-into _ _ (λ g h. (length-digits 8 8 g, number-digits 8 8 g h)) gs p))
 
 bytes-groups : (block : List ℕ) → length block ≡ 512 → Below 256 block → bytesOf (groupsOf block) ≡ block
 unfolding groupsOf bytesOf
@@ -66,14 +62,8 @@ bytes-groups block e p = back (digitsOf 8 8) (numberOf 8) 8 256 (digits-number 8
 abbrev pub Block : List ℕ → Type 0
 Block gs = (length gs ≡ 64) × Below (2 ^ 64) gs
 
-kept-block : (bs : List (List ℕ)) → Each Block bs → Each (Kept bytesOf groupsOf 512) bs
-kept-block [] p = tt
-kept-block (gs ∷ bs) p =
-    let l = p .0 .0 in
-    ((length-bytes gs ∙ omega arith, groups-bytes gs l (p .0 .1)), kept-block bs (p .1))
-
 pub blocks-bytes : (bs : List (List ℕ)) → Each Block bs → map groupsOf (pieces 512 (length bs) (joined (map bytesOf bs))) ≡ bs
-blocks-bytes bs p = there bytesOf groupsOf 512 bs (kept-block bs p)
+blocks-bytes bs p = there bytesOf groupsOf 512 bs (each-into _ _ (λ gs (l, h). (length-bytes gs ∙ rw l, groups-bytes gs l h)) bs p)
 
 groups-block : (block : List ℕ) → length block ≡ 512 → Below 256 block → Block (groupsOf block)
 unfolding groupsOf

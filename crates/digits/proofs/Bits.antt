@@ -15,7 +15,7 @@ pub one-lt : (b : Bool) → one b < 2
 one-lt true = omega arith
 one-lt false = omega arith
 
-pub one-eqb : (b : Bool) → eqb (one b) 1 ≡ b
+one-eqb : (b : Bool) → eqb (one b) 1 ≡ b
 one-eqb true = refl
 one-eqb false = refl
 

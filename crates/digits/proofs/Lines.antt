@@ -45,7 +45,7 @@ parts-mod d (k ∷ ks) n =
     ap₂ (λ (x : ℕ) (l : List ℕ). x ∷ l) (slot-mod d (total ks) k n)
     (ap (λ (e : ℕ). parts ks (n % 2 ^ e)) (sym (add-assoc d k (total ks))) ∙ parts-mod (d + k) ks n)
 
-pub parts-low : (ks : List ℕ) (n : ℕ) → parts ks (n % 2 ^ total ks) ≡ parts ks n
+parts-low : (ks : List ℕ) (n : ℕ) → parts ks (n % 2 ^ total ks) ≡ parts ks n
 parts-low ks n = ap (λ (e : ℕ). parts ks (n % 2 ^ e)) (sym (zero-add (total ks))) ∙ parts-mod 0 ks n
 
 -- the fields of the number of fields that fit
@@ -107,7 +107,7 @@ mask-lt (k ∷ ks) [] = pow-pos (k + total ks)
 mask-lt (k ∷ ks) (b ∷ marks) =
     subst (λ (x : ℕ). filled b k * 2 ^ total ks + mask ks marks < x) (sym (pow-add 2 k (total ks))) (digits-lt (filled-lt b k) (mask-lt ks marks))
 
-pub ones-zero : ones 0 ≡ 0
+ones-zero : ones 0 ≡ 0
 unfolding ones
 ones-zero = refl
 

@@ -125,6 +125,7 @@ module _ {A X : Type 0} {given : X → A} {refused : ℕ → A} (t : Tells given
 
 -- ---- one list after another
 
+-- two lists without a number 0 make one without
 pub numbered-append : (xs ys : List Check) → T (numbered xs) → T (numbered ys) → T (numbered (xs ++ ys))
 numbered-append [] ys s t = t
 numbered-append ((zero, b) ∷ xs) ys s t = absurd s

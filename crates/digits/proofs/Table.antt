@@ -22,6 +22,11 @@ at rule xs t k h = subst (λ (m : ℕ). T (rule m (getD xs k 0))) (zero-add k) (
 
 -- ---- what holds of each row
 
+-- of each holds what follows from what holds of it
+pub each-into : {A : Type 0} (P Q : A → Type 0) → ((x : A) → P x → Q x) → (xs : List A) → Each P xs → Each Q xs
+each-into P Q f [] p = tt
+each-into P Q f (x ∷ xs) p = (f x (p .0), each-into P Q f xs (p .1))
+
 -- each number is below m
 abbrev pub Below : ℕ → List ℕ → Type 0
 Below m xs = Each (λ (x : ℕ). x < m) xs
@@ -42,6 +47,7 @@ module _ {A : Type 0} (P : A → Type 0) where
   each-append [] ys p q = q
   each-append (x ∷ xs) ys p q = (p .0, each-append xs ys (p .1) q)
 
+  -- of both parts, where it holds of the whole
   pub each-split : (xs ys : List A) → Each P (xs ++ ys) → Each P xs × Each P ys
   each-split [] ys p = (tt, p)
   each-split (x ∷ xs) ys p = let (left, right) = each-split xs ys (p .1) in ((p .0, left), right)

@@ -22,6 +22,7 @@ use Rattle.listing.proofs.list.Reads as list
 use Rattle.listing.proofs.refusal.Reads as refusal
 use Rattle.listing.proofs.print.Reads as print
 
+-- a refusal tells its number, and is no text
 listed-tells : Tells L.Text L.Refused
 listed-tells = record { number = λ m n e. cc; apart = λ t n e. zero-one cc }
 

@@ -16,7 +16,7 @@ ones-bit zero h = refl
 ones-bit (suc zero) h = refl
 ones-bit (suc (suc b)) h = absurd (not-suc-le-zero (le-of-suc-le-suc (le-of-suc-le-suc h)))
 
-pub ones-last : (vs : List ℕ) (b : ℕ) → b < 2 → onesOf (vs ++ (b ∷ [])) ≡ onesOf vs + b
+ones-last : (vs : List ℕ) (b : ℕ) → b < 2 → onesOf (vs ++ (b ∷ [])) ≡ onesOf vs + b
 ones-last [] b h = omega (arith, ones-bit b h)
 ones-last (v ∷ vs) b h = omega (arith, ones-last vs b h)
 

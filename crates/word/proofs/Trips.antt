@@ -29,7 +29,7 @@ pub fit-line : (f : Fields) (pn pa ps pc : ℕ) → inWidth f ≡ true → pn < 
 unfolding inWidth
 fit-line f pn pa ps pc h = refit f 0 0 0 0 pn pa ps pc (fit-true widths (line f 0 0 0 0) h)
 
-pub fit-with : (f : Fields) (a : ℕ) → inWidth f ≡ true → Fit widths (lineWith f a)
+fit-with : (f : Fields) (a : ℕ) → inWidth f ≡ true → Fit widths (lineWith f a)
 fit-with f a h = fit-line f _ _ _ _ h (omega arith) (omega arith) (omega arith) (omega arith)
 
 width-back : (w : ℕ) → inWidth (fieldsOf w) ≡ true
@@ -41,6 +41,7 @@ width-back w =
 
 -- ---- what an accepted word, and accepted fields, meet
 
+-- a refusal tells its number, and is no fields and no word
 pub apart-tells : Tells A.Fields A.Refused
 apart-tells = record { number = λ m n e. cc; apart = λ f n e. zero-one cc }
 
