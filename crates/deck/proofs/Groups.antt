@@ -5,7 +5,7 @@ use mathlib.Core.List.{List, [], _∷_}
 use native.Mathlib.Omega.{arith}
 use lib.ListN.{length, getD, take, drop, length-append}
 use Rattle.deck.specs.Number.{numberOf, digitsOf}
-use Rattle.deck.specs.Deck.{groupsOf, bytesOf, blocksOf}
+use Rattle.deck.specs.Deck.{groupsOf, bytesOf, blocksOf, blockAt}
 use Rattle.deck.proofs.Lists.{length-each, each-at}
 
 pub length-groups : (block : List ℕ) → length (groupsOf block) ≡ 64
@@ -25,6 +25,6 @@ pub length-blocks : (deck : List ℕ) → length (blocksOf deck) ≡ length deck
 unfolding blocksOf
 length-blocks deck = length-each groupsOf 512 (length deck / 512) deck
 
-pub blocks-at : (deck : List ℕ) (b : ℕ) → b < length deck / 512 → getD (blocksOf deck) b [] ≡ groupsOf (take 512 (drop (b * 512) deck))
+pub blocks-at : (deck : List ℕ) (b : ℕ) → b < length deck / 512 → getD (blocksOf deck) b [] ≡ blockAt deck b
 unfolding blocksOf
 blocks-at deck = each-at groupsOf 512 (length deck / 512) deck []

@@ -26,6 +26,10 @@ bytesOf gs = joined (map (digitsOf 8 8) gs)
 unfoldable pub blocksOf : List ℕ → List (List ℕ)
 blocksOf deck = map groupsOf (pieces 512 (length deck / 512) deck)
 
+-- block b of a deck
+abbrev pub blockAt : List ℕ → ℕ → List ℕ
+blockAt deck b = groupsOf (take 512 (drop (b * 512) deck))
+
 -- "Group 0: block number from 0 (2 bytes), count (2), reserved zero (4)."
 abbrev pub headWidths : List ℕ
 headWidths = 16 ∷ 16 ∷ 32 ∷ []

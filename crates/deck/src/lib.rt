@@ -1,12 +1,12 @@
 // A deck of words: blocks of 512 bytes, each 64 groups of 8, high byte first.
 ghost use mathlib.Core.Path.{_≡_};
-ghost use Prim.Native.Nat.{min, _+_, _*_, _<_, _≤_};
+ghost use Prim.Native.Nat.{min, _+_, _*_, _/_, _<_, _≤_};
 ghost use lib.ListN.{length, take, drop};
 ghost use mathlib.Core.List.{_++_};
 ghost use Rattle.digits.specs.Refusal.{first};
 ghost use Rattle.deck.specs.Lists.{inTurn, over};
 ghost use Rattle.deck.specs.Number.{digitsOf, numberOf};
-ghost use Rattle.deck.specs.Deck.{groupsOf, bytesOf, numberIn, countIn, wordsIn, checkOf, countWrong, unusedWrong, lengthWrong, shapeWrong, wordChecks, blockChecks, deckChecks, wordsOf, readOf, wordsAfter, blockOf, blockCount, deckOf, writeOf, deckAfter};
+ghost use Rattle.deck.specs.Deck.{groupsOf, bytesOf, blockAt, numberIn, countIn, wordsIn, checkOf, countWrong, unusedWrong, lengthWrong, shapeWrong, wordChecks, blockChecks, deckChecks, wordsOf, readOf, wordsAfter, blockOf, blockCount, deckOf, writeOf, deckAfter};
 use digits::first_of;
 
 pub enum Reading {
@@ -67,6 +67,16 @@ fn groups_of(block: &[u8]) -> [u64; 64]
         i += 1;
     }
     gs
+}
+
+// The groups of block `b` of a deck.
+fn block_at(deck: &[u8], b: usize) -> [u64; 64]
+    requires { ⌜ b < length (now deck) / 512 ⌝ }
+    ensures { λ r. ⌜ r ≡ blockAt (now (deck .entry)) b ⌝ }
+{
+    let at = b * 512;
+    let end = at + 512;
+    groups_of(&deck[at..end])
 }
 
 // The block check: the sum of groups 0 to 62, wrapping. Another may come to stand beside it.
@@ -171,9 +181,7 @@ fn deck_fault(deck: &[u8]) -> u8
     let n = deck.len() / 512;
     let mut b: usize = 0;
     while b < n {
-        let at = b * 512;
-        let end = at + 512;
-        let number = block_fault(groups_of(&deck[at..end]), b, n);
+        let number = block_fault(block_at(deck, b), b, n);
         if number != 0 {
             return number;
         }
@@ -191,9 +199,7 @@ fn count_words(deck: &[u8]) -> usize
     let mut b: usize = 0;
     let mut total: usize = 0;
     while b < n {
-        let at = b * 512;
-        let end = at + 512;
-        total += count_in(groups_of(&deck[at..end]));
+        total += count_in(block_at(deck, b));
         b += 1;
     }
     total
@@ -233,9 +239,7 @@ fn put_all(deck: &[u8], words: &mut [u64])
     let mut b: usize = 0;
     let mut done: usize = 0;
     while b < n {
-        let at = b * 512;
-        let end = at + 512;
-        done = put_words(groups_of(&deck[at..end]), words, done);
+        done = put_words(block_at(deck, b), words, done);
         b += 1;
     }
 }

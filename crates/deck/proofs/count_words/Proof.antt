@@ -2,14 +2,14 @@
 use Prim.Native.Nat.{_+_, _-_, _*_, _/_, _≤_, _<_}
 use mathlib.Core.Path.{_≡_, refl, ap, _∙_}
 use mathlib.Core.List.{map}
-use native.Mathlib.Nat.{zero-add, add-sub-cancel-left}
+use native.Mathlib.Nat.{zero-add}
 use native.Mathlib.Omega.{arith}
-use lib.ListN.{length, drop, length-take, length-drop, length-append, drop-of-length-le}
+use lib.ListN.{length, drop, length-append, drop-of-length-le}
 use borrow.Author.Needs.{needs}
 use Rattle.deck.specs.Lists.{joined}
-use Rattle.deck.specs.Deck.{blocksOf, countIn, wordsIn, wordsOf}
+use Rattle.deck.specs.Deck.{blocksOf, blockAt, countIn, wordsIn, wordsOf}
 use Rattle.deck.proofs.Groups.{length-groups, length-blocks}
-use Rattle.deck.proofs.Decks.{block, length-words, some-at, words-step}
+use Rattle.deck.proofs.Decks.{length-words, some-at, words-step}
 use Rattle.deck.proofs.count_words.Statement.{statement}
 use Rattle.deck.proofs.count_words.Tie as tie
 
@@ -24,23 +24,16 @@ loop-holds : tie.Need-loop-holds Inv-loop μ-loop
 unfolding wordsOf
 loop-holds c = (search needs, refl, search needs, zero-add _)
 
--- the groups that are read are the block's
-is-block : (c : tie.After-groups-of Inv-loop μ-loop) → c .groups-of .result ≡ block (c .before .before .before .before .before .args .deck .now) (c .before .before .before .loop .b)
-is-block c = c .groups-of .ensures ∙ rw (add-sub-cancel-left (c .before .before .before .loop .b * 512) 512)
-
-groups-of-requires : tie.Need-groups-of-requires Inv-loop μ-loop
-groups-of-requires c κs = simp (length-take, length-drop) (omega arith)
-
 loop-again : tie.Need-loop-again Inv-loop μ-loop
 loop-again c =
-    let l = c .before .before .before .before .loop in
-    let s = c .before .before .before .before .before .before in
+    let l = c .before .before .before .loop in
+    let s = c .before .before .before .before .before in
     let deck = s .args .deck .now in
     let h : l .b < length deck / 512 = omega arith in
     let k = some-at deck (l .b) h (s .pre .1) in
-    let w = length-words (block deck (l .b)) (length-groups _) (k .1) in
-    let j = ap length (words-step deck (l .b) h) ∙ length-append (wordsIn (block deck (l .b))) _ in
-    let n : c .count-in .result ≡ countIn (block deck (l .b)) = c .count-in .ensures .0 ∙ ap countIn (is-block (c .before)) in
+    let w = length-words (blockAt deck (l .b)) (length-groups _) (k .1) in
+    let j = ap length (words-step deck (l .b) h) ∙ length-append (wordsIn (blockAt deck (l .b))) _ in
+    let n : c .count-in .result ≡ countIn (blockAt deck (l .b)) = c .count-in .ensures .0 ∙ ap countIn (c .before .block-at .ensures) in
     (search needs, refl, omega arith, omega arith)
 
 returns : tie.Need-returns Inv-loop μ-loop
@@ -57,12 +50,7 @@ count-words-spec =
     Inv-loop
     μ-loop
     loop-holds
-    (λ c. search needs)
-    (λ c. search needs)
-    (λ c. search needs)
-    (λ c. search needs)
-    (λ c. search needs)
-    groups-of-requires
+    (λ c κs. search needs)
     (λ c κs. tt)
     (λ c. search needs)
     (λ c. search needs)

@@ -1,10 +1,10 @@
 -- The checks of the blocks that are left, against those of all. Assumes nothing.
-use Prim.Native.Nat.{_+_, _-_, _*_, _/_, _≤_}
+use Prim.Native.Nat.{_+_, _-_, _/_, _≤_}
 use mathlib.Core.Path.{_≡_, refl, sym, _∙_}
 use mathlib.Core.List.{[]}
-use native.Mathlib.Nat.{zero-add, add-sub-cancel-left}
+use native.Mathlib.Nat.{zero-add}
 use native.Mathlib.Omega.{arith}
-use lib.ListN.{length, getD, drop, length-take, length-drop, drop-of-length-le}
+use lib.ListN.{length, getD, drop, drop-of-length-le}
 use borrow.Author.Needs.{needs}
 use Rattle.digits.specs.Refusal.{first}
 use Rattle.deck.specs.Lists.{inTurn}
@@ -22,29 +22,26 @@ Inv-loop deck n b₀ b =
 abbrev μ-loop : tie.MeasureT-loop
 μ-loop deck n b₀ b = n - b
 
-groups-of-requires : tie.Need-groups-of-requires Inv-loop μ-loop
-groups-of-requires c κs = simp (length-take, length-drop) (omega arith)
-
 -- what is found is of the block at its place
 found : (c : tie.After-block-fault Inv-loop μ-loop) →
-    let deck = c .before .before .before .before .before .before .args .deck .now in
-    let b = c .before .before .before .before .loop .b in
+    let deck = c .before .before .before .before .before .args .deck .now in
+    let b = c .before .before .before .loop .b in
     c .block-fault .result ≡ first (blockChecks (length deck / 512) (0 + b) (getD (blocksOf deck) b []))
 found c =
-    let deck = c .before .before .before .before .before .before .args .deck .now in
-    let b = c .before .before .before .before .loop .b in
-    c .block-fault .ensures ∙ rw (c .before .groups-of .ensures, add-sub-cancel-left (b * 512) 512, blocks-at deck b (omega arith), zero-add b)
+    let deck = c .before .before .before .before .before .args .deck .now in
+    let b = c .before .before .before .loop .b in
+    c .block-fault .ensures ∙ rw (c .before .block-at .ensures, blocks-at deck b (omega arith), zero-add b)
 
 returns : tie.Need-returns Inv-loop μ-loop
 returns c =
-    let l = c .before .before .before .before .before .loop in
-    let deck = c .before .before .before .before .before .before .before .args .deck .now in
+    let l = c .before .before .before .before .loop in
+    let deck = c .before .before .before .before .before .before .args .deck .now in
     turn-stop (blockChecks (length deck / 512)) (block-numbered (length deck / 512)) [] (blocksOf deck) 0 (l .b) (c .before .block-fault .result) (rw length-blocks (omega arith)) (found (c .before)) (c .if1 .taken) ∙ l .inv .2
 
 loop-again : tie.Need-loop-again Inv-loop μ-loop
 loop-again c =
-    let l = c .before .before .before .before .before .loop in
-    let deck = c .before .before .before .before .before .before .before .args .deck .now in
+    let l = c .before .before .before .before .loop in
+    let deck = c .before .before .before .before .before .before .args .deck .now in
     let n = length deck / 512 in
     let e = sym (found (c .before)) ∙ c .if1 .left in
     (search needs, refl, turn-step (blockChecks n) (block-numbered n) [] (blocksOf deck) 0 (l .b) (rw length-blocks (omega arith)) e ∙ l .inv .2)
@@ -62,12 +59,7 @@ deck-fault-spec =
     Inv-loop
     μ-loop
     (λ c. (search needs, refl, refl))
-    (λ c. search needs)
-    (λ c. search needs)
-    (λ c. search needs)
-    (λ c. search needs)
-    (λ c. search needs)
-    groups-of-requires
+    (λ c κs. search needs)
     (λ c κs. search needs)
     returns
     (λ c. search needs)

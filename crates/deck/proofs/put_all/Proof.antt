@@ -1,16 +1,15 @@
 -- One block a turn: the front that is put, and the words of the blocks that are left. Assumes nothing.
-use Prim.Native.Nat.{_+_, _-_, _*_, _/_, _≤_, _<_}
-use mathlib.Core.Path.{_≡_, refl, _∙_}
+use Prim.Native.Nat.{_+_, _-_, _/_, _≤_, _<_}
+use mathlib.Core.Path.{_≡_, refl}
 use mathlib.Core.List.{_++_, map}
-use native.Mathlib.Nat.{add-sub-cancel-left}
 use native.Mathlib.Omega.{arith}
-use lib.ListN.{length, take, drop, length-take, length-drop, drop-of-length-le}
+use lib.ListN.{length, take, drop, drop-of-length-le}
 use borrow.Author.Needs.{needs}
 use Rattle.deck.specs.Lists.{joined}
-use Rattle.deck.specs.Deck.{blocksOf, countIn, wordsIn, wordsOf}
+use Rattle.deck.specs.Deck.{blocksOf, blockAt, countIn, wordsIn, wordsOf}
 use Rattle.deck.proofs.Walks.{Put, put-none, put-room, put-turn, put-all}
 use Rattle.deck.proofs.Groups.{length-groups, length-blocks}
-use Rattle.deck.proofs.Decks.{block, length-words, some-at, words-step}
+use Rattle.deck.proofs.Decks.{length-words, some-at, words-step}
 use Rattle.deck.proofs.put_all.Statement.{statement}
 use Rattle.deck.proofs.put_all.Tie as tie
 
@@ -25,35 +24,28 @@ loop-holds : tie.Need-loop-holds Inv-loop μ-loop
 unfolding wordsOf
 loop-holds c = (search needs, refl, put-none (wordsOf (c .before .before .args .deck .now)) (c .before .before .args .words .now))
 
--- the groups that are read are the block's
-is-block : (c : tie.After-groups-of Inv-loop μ-loop) → c .groups-of .result ≡ block (c .before .before .before .before .before .before .args .deck .now) (c .before .before .before .loop .b)
-is-block c = c .groups-of .ensures ∙ rw (add-sub-cancel-left (c .before .before .before .loop .b * 512) 512)
-
-groups-of-requires : tie.Need-groups-of-requires Inv-loop μ-loop
-groups-of-requires c κs = simp (length-take, length-drop) (omega arith)
-
 put-words-requires : tie.Need-put-words-requires Inv-loop μ-loop
 put-words-requires c κs =
-    let s = c .before .before .before .before .before .before .before in
-    let l = c .before .before .before .before .loop in
+    let s = c .before .before .before .before .before .before in
+    let l = c .before .before .before .loop in
     let deck = s .args .deck .now in
     let k = some-at deck (l .b) (omega arith) (s .pre .0 .1) in
-    let w = length-words (block deck (l .b)) (length-groups _) (k .1) in
-    let r = put-room (l .inv .2) (wordsIn (block deck (l .b))) _ (words-step deck (l .b) (omega arith)) in
-    rw (is-block (c .before)) (k .1, omega arith)
+    let w = length-words (blockAt deck (l .b)) (length-groups _) (k .1) in
+    let r = put-room (l .inv .2) (wordsIn (blockAt deck (l .b))) _ (words-step deck (l .b) (omega arith)) in
+    rw (c .before .block-at .ensures) (k .1, omega arith)
 
 loop-again : tie.Need-loop-again Inv-loop μ-loop
 loop-again c =
-    let s = c .before .before .before .before .before .before .before .before .before .before in
-    let l = c .before .before .before .before .before .before .before .loop in
+    let s = c .before .before .before .before .before .before .before .before .before in
+    let l = c .before .before .before .before .before .before .loop in
     let f = c .before .before .put-words in
     let deck = s .args .deck .now in
     let h : l .b < length deck / 512 = omega arith in
-    let gs = block deck (l .b) in
+    let gs = blockAt deck (l .b) in
     let k = some-at deck (l .b) h (s .pre .0 .1) in
     let w = length-words gs (length-groups _) (k .1) in
     let e : (f .result ≡ l .done + countIn gs) × (f .last .1 .0 ≡ take (l .done) (l .words) ++ (wordsIn gs ++ drop (countIn gs) (drop (l .done) (l .words)))) =
-    rw (is-block (c .before .before .before .before)) at (f .ensures) in
+    rw (c .before .before .before .before .block-at .ensures) at (f .ensures) in
     (search needs, refl, rw (e .0, e .1) (put-turn (l .inv .2) (wordsIn gs) _ (wordsIn gs) (countIn gs) (words-step deck (l .b) h) w refl (s .pre .1)))
 
 returns : tie.Need-returns Inv-loop μ-loop
@@ -69,12 +61,7 @@ put-all-spec =
     Inv-loop
     μ-loop
     loop-holds
-    (λ c. search needs)
-    (λ c. search needs)
-    (λ c. search needs)
-    (λ c. search needs)
-    (λ c. search needs)
-    groups-of-requires
+    (λ c κs. search needs)
     put-words-requires
     (λ c. search needs)
     (λ c. search needs)
