@@ -86,7 +86,7 @@ no-words (gs ∷ bs) e = absurd (omega arith)
 
 pub again : (b all : ℕ) (bs : List (List ℕ)) → Each Block bs → b + length bs ≡ all → all ≤ 67 → None (inTurn (blockChecks all) b bs) → Again b bs
 again b all [] p e m h = record { same = refl; least = omega arith; most = omega arith; total = omega arith; none = tt }
-again b all (gs ∷ bs) p e m h = 
+again b all (gs ∷ bs) p e m h =
     let (here, later) = each-split _ (blockChecks all b gs) _ h in
     turn (again (suc b) all bs (p .1) (omega arith) m later) (good all b gs here)
   where
