@@ -1,7 +1,6 @@
 // The arithmetic unit, from the bytes that CA and CB chose to the result and its latches.
 ghost use mathlib.Core.Path.{_≡_};
 ghost use Prim.Native.Nat.{_<_};
-ghost use Rattle.digits.specs.Bits.{one};
 ghost use Rattle.adder.specs.Gates.{gatedA, gatedB};
 ghost use Rattle.adder.specs.Adder.{isComplement, turned, sixes, entering, summed, lowered, correctedOf, resultOf, finished, uncarried, operated, sumOf};
 

@@ -20,9 +20,6 @@ wrap s g t = omega arith
 pub sum-step : (l : List ℕ) (i s : ℕ) → i < length l → ((s + getD l i 0) % 2 ^ 64 + total (drop (i + 1) l)) % 2 ^ 64 ≡ (s + total (drop i l)) % 2 ^ 64
 sum-step l i s h = rw (drop-cons l i 0 h, add-one) (wrap s (getD l i 0) (total (drop (suc i) l)))
 
-pub sum-end : (l : List ℕ) (i s : ℕ) → length l ≤ i → s < 2 ^ 64 → (s + total (drop i l)) % 2 ^ 64 ≡ s
-sum-end l i s h k = rw (drop-of-length-le l h) (omega arith)
-
 -- ---- a search for what is not zero
 
 pub zero-step : (l : List ℕ) (i : ℕ) → i < length l → getD l i 0 ≡ 0 → allZero (drop (i + 1) l) ≡ allZero (drop i l)

@@ -3,7 +3,6 @@ ghost use mathlib.Core.Path.{_≡_};
 ghost use mathlib.Core.Bool.{false};
 ghost use Prim.Native.Nat.{_<_};
 ghost use lib.ListN.{getD};
-ghost use Rattle.digits.specs.Bits.{one};
 ghost use Rattle.machine.specs.Branch.{highBranches, lowBranches, wOf, nextOf};
 use crate::State;
 use digits::bit;

@@ -11,18 +11,14 @@ use Rattle.digits.proofs.Truth.{neither}
 use Rattle.word.specs.Word.{takenApart, packed}
 use Rattle.word.specs.declared.Fields.{Fields}
 use Rattle.word.specs.declared.Apart.{Apart}
-use Rattle.word.specs.declared.Apart.the-variants as A
 use Rattle.word.specs.declared.Packed.{Packed}
-use Rattle.word.specs.declared.Packed.the-variants as P
 use Rattle.machine.specs.Cycle.{Outcome, outcome, cycleOf}
 use Rattle.machine.specs.declared.State.{State}
 use Rattle.machine.specs.declared.Cycled.{Cycled}
-use Rattle.machine.specs.declared.Cycled.the-variants as C
 use Rattle.run.specs.Run.{runOf}
 use Rattle.run.specs.declared.Finished.{Finished}
 use Rattle.decimal.specs.Entry.{addOf}
 use Rattle.decimal.specs.declared.Added.{Added}
-use Rattle.decimal.specs.declared.Added.the-variants as D
 use Rattle.deck.specs.Lists.{over}
 use Rattle.panel.specs.Record.{loaded, fieldsIn}
 use Rattle.panel.specs.Answers.{REFUSED, coded, counted, answered, answerApart, takeApartCall, answerPacked, packCall, called, cycled, cycledBy, cycleCall, endingCode, recordAfter, ranBy, runCall, addedCode, addedBy, addDecimalCall}

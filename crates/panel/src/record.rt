@@ -2,7 +2,6 @@
 ghost use mathlib.Core.Path.{_≡_};
 ghost use Prim.Native.Nat.{_+_, _*_, _≤_};
 ghost use lib.ListN.{length};
-ghost use Rattle.digits.specs.Bits.{one};
 ghost use Rattle.deck.specs.Lists.{over};
 ghost use Rattle.panel.specs.Record.{saved, loaded, fieldBytes, fieldsIn};
 use machine::State;

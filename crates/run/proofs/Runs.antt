@@ -8,7 +8,6 @@ use Rattle.digits.specs.Refusal.{first}
 use Rattle.machine.specs.Cycle.{Outcome, outcome, cycleOf}
 use Rattle.machine.specs.declared.State.{State}
 use Rattle.machine.specs.declared.Cycled.{Cycled}
-use Rattle.machine.specs.declared.Cycled.the-variants as C
 use Rattle.run.specs.Run.{ended, onward, cyclesOf, runChecks, runBy, runOf}
 use Rattle.run.specs.declared.Ending.the-variants.{Refused, Spent}
 

@@ -1,14 +1,14 @@
 -- The sum so far with the groups that are left, against the whole. Assumes nothing.
 use Prim.Native.Nat.{ℕ, _+_, _-_, _%_, _^_, _≤_, _<_}
-use mathlib.Core.Path.{_≡_, sym, ap, _∙_}
+use mathlib.Core.Path.{_≡_, ap, _∙_}
 use native.Mathlib.Nat.{zero-add}
 use native.Mathlib.Omega.{arith}
-use lib.ListN.{length, take, drop, length-take}
+use lib.ListN.{length, take, drop, length-take, drop-of-length-le}
 use lib.Seq.{getD-take, length-take-le}
 use borrow.Author.Needs.{needs}
 use Rattle.digits.specs.Line.{total}
 use Rattle.deck.specs.Deck.{checkOf}
-use Rattle.deck.proofs.Walks.{sum-step, sum-end}
+use Rattle.deck.proofs.Walks.{sum-step}
 use Rattle.deck.proofs.block_check.Statement.{statement}
 use Rattle.deck.proofs.block_check.Tie as tie
 
@@ -37,7 +37,8 @@ returns : tie.Need-returns Inv-loop μ-loop
 returns c =
     let l = c .before .loop in
     let gs = c .before .before .args .t1 in
-    sym (sum-end (take 63 gs) (l .place) (l .sum) (omega (arith, length-take 63 gs)) (l .inv .1)) ∙ l .inv .2
+    let e = rw (drop-of-length-le (take 63 gs) {i = l .place} (omega (arith, length-take 63 gs))) at (l .inv .2) in
+    omega arith
 
 pub block-check-spec : {M : Type 1} → statement M
 block-check-spec =
