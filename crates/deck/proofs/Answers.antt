@@ -12,7 +12,8 @@ use Rattle.digits.specs.Refusal.{Check, first}
 use Rattle.digits.proofs.Refusals.{numbered, None, refuses, none-first, Tells, given-none, first-append}
 use Rattle.digits.proofs.Table.{each-split}
 use Rattle.digits.proofs.Truth.{zero-one, neither}
-use Rattle.deck.specs.Lists.{inTurn, over}
+use Rattle.digits.specs.Lent.{over}
+use Rattle.deck.specs.Lists.{inTurn}
 use Rattle.deck.specs.Deck.{roomWrong, lengthWrong, wordChecks, deckChecks, blocksOf, wordsOf, readChecks, readOf, wordsAfter, blockCount, deckOf, wordsWrong, writeChecks, writeOf, deckAfter}
 use Rattle.deck.specs.declared.Reading.the-variants as R
 use Rattle.deck.specs.declared.Writing.the-variants as W

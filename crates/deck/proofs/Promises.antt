@@ -9,7 +9,8 @@ use denote.Ref.{now}
 use Rattle.digits.specs.Refusal.{first, Given}
 use Rattle.digits.proofs.Refusals.{exactly, same-refusal}
 use Rattle.digits.proofs.Sole.{sole}
-use Rattle.deck.specs.Lists.{pieces, over}
+use Rattle.digits.specs.Lent.{over}
+use Rattle.deck.specs.Lists.{pieces}
 use Rattle.deck.specs.Deck.{countIn, checkOf, blockOf, blocksFor, readChecks, readOf, wordsAfter, wordsOf, blockCount, deckOf, writeChecks, writeOf, deckAfter}
 use Rattle.deck.specs.declared.Reading.{Reading}
 use Rattle.deck.specs.declared.Reading.the-variants as R

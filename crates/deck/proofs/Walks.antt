@@ -3,14 +3,14 @@ use Prim.Native.Nat.{ℕ, zero, suc, _+_, _-_, _%_, _^_, _<_, _≤_}
 use mathlib.Core.Path.{_≡_, refl, sym, ap, _∙_}
 use mathlib.Core.List.{List, [], _∷_, _++_, append-assoc, append-nil}
 use mathlib.Core.Bool.{false}
-use native.Mathlib.Nat.{zero-add}
 use native.Mathlib.Numerals.{add-one}
 use native.Mathlib.Omega.{arith}
 use borrow.Author.Tests.{ne-eqb}
-use lib.ListN.{length, getD, take, drop, set, length-append, length-drop, length-set, drop-of-length-le}
-use lib.Seq.{drop-cons, drop-drop, take-append-seam, drop-append-seam, getD-set-same, drop-set-lt, paste-suc}
+use lib.ListN.{length, getD, take, drop, set, length-append, length-drop, length-set}
+use lib.Seq.{drop-cons, drop-drop, take-append-seam, drop-append-seam, getD-set-same, drop-set-lt}
 use Rattle.digits.specs.Line.{total}
-use Rattle.deck.specs.Lists.{allZero, over}
+use Rattle.digits.specs.Lent.{over}
+use Rattle.deck.specs.Lists.{allZero}
 
 -- ---- a sum that wraps
 
@@ -30,11 +30,6 @@ zero-stop l i h e = rw (drop-cons l i 0 h, ne-eqb (getD l i 0) 0 e)
 
 -- ---- what is put
 
--- a store at the end of a copy
-pub copy-step : (from to : List ℕ) (i v : ℕ) → i < length from → i < length to → v ≡ getD from i 0
-    → set (take i from ++ drop i to) i v ≡ take (i + 1) from ++ drop (i + 1) to
-copy-step from to i v h k e = rw (e, add-one) (rw (zero-add i, zero-add (suc i)) at (paste-suc to 0 from i 0 (rw zero-add k) h))
-
 -- a store in front of what is put: `all` is still to put before it, and `ds` after it
 pub put-before : (ds all out : List ℕ) (i x : ℕ) → 0 < i → i ≤ length out → all ≡ ds ++ (x ∷ []) → ds ++ drop (i - 1) (set out (i - 1) x) ≡ all ++ drop i out
 put-before ds all out zero x p h e = absurd (omega arith)
@@ -45,10 +40,6 @@ put-before ds all out (suc i) x p h e =
 
 length-over : (new old : List ℕ) → length new ≤ length old → length (over new old) ≡ length old
 length-over new old h = length-append new (drop (length new) old) ∙ rw (length-drop (length new) old) (omega arith)
-
--- a new list that fills the old
-pub over-full : (new old : List ℕ) → length old ≤ length new → over new old ≡ new
-over-full new old h = rw (drop-of-length-le old h) (append-nil new)
 
 -- how far a whole is put over what was there, when `rest` is left and `at` is where it goes
 pub record Put (whole old rest w : List ℕ) (at : ℕ) : Type 0 where

@@ -8,7 +8,8 @@ use Rattle.digits.specs.Line.{total, parts, join}
 use Rattle.digits.specs.Refusal.{Check, first, answer}
 use Rattle.word.specs.Layout.{lineOf}
 use Rattle.word.specs.Word.{faultChecks}
-use Rattle.deck.specs.Lists.{pieces, joined, placed, inTurn, allZero, over}
+use Rattle.digits.specs.Lent.{over}
+use Rattle.deck.specs.Lists.{pieces, joined, placed, inTurn, allZero}
 use Rattle.deck.specs.Number.{digitsOf, numberOf}
 use Rattle.deck.specs.declared.Reading.{Reading}
 use Rattle.deck.specs.declared.Reading.the-variants as R

@@ -2,7 +2,7 @@
 use Prim.Native.Nat.{ℕ, zero, suc, _+_}
 use mathlib.Core.List.{List, [], _∷_, _++_}
 use mathlib.Core.Bool.{Bool, true, _&&_}
-use lib.ListN.{take, drop, length}
+use lib.ListN.{take, drop}
 use lib.Dec.{eqb}
 
 -- n pieces of k each; the last may have fewer
@@ -27,7 +27,3 @@ inTurn f i l = joined (placed f i l)
 abbrev pub allZero : List ℕ → Bool
 allZero [] = true
 allZero (x ∷ xs) = eqb x 0 && allZero xs
-
--- what was lent, with the new at its front and nothing changed past it
-abbrev pub over : {A : Type 0} → List A → List A → List A
-over new old = new ++ drop (length new) old

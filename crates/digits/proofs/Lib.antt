@@ -4,5 +4,6 @@ pub mod Lines
 pub mod Table
 pub mod Refusals
 pub mod Sizes
+pub mod Copies
 pub mod Sole
 pub mod Promises

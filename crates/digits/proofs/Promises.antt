@@ -2,6 +2,7 @@
 use Prim.Native.Nat.{ℕ}
 use mathlib.Core.Path.{_≡_}
 use mathlib.Core.Bool.{Bool}
+use denote.Ref.{now}
 use Rattle.digits.proofs.Sole.{sole}
 use Rattle.digits.proofs.one.Reads as one
 use Rattle.digits.proofs.bit.Reads as bit
@@ -10,6 +11,7 @@ use Rattle.digits.proofs.both_decimal.Reads as both-decimal
 use Rattle.digits.proofs.first_of.Reads as first-of
 use Rattle.digits.proofs.storage_wrong.Reads as storage-wrong
 use Rattle.digits.proofs.sizes_wrong.Reads as sizes-wrong
+use Rattle.digits.proofs.copy.Reads as copy
 
 pub one-sole : (κs : _) (args : _) (r q : ℕ) (x y : _) → one.Post κs args r x → one.Post κs args q y → r ≡ q
 one-sole κs args r q x y a b = sole (a .0) (b .0)
@@ -31,3 +33,7 @@ storage-wrong-sole κs args r q x y a b = sole a b
 
 pub sizes-wrong-sole : (κs : _) (args : _) (r q : Bool) (x y : _) → sizes-wrong.Post κs args r x → sizes-wrong.Post κs args q y → r ≡ q
 sizes-wrong-sole κs args r q x y a b = sole a b
+
+-- of what is lent
+pub copy-sole : (κs : _) (args : _) (r q : _) (x y : _) → copy.Post κs args r x → copy.Post κs args q y → now (x .1 .0) ≡ now (y .1 .0)
+copy-sole κs args r q x y a b = sole a b

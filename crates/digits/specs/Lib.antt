@@ -4,3 +4,4 @@ pub mod Line
 pub mod Table
 pub mod Refusal
 pub mod Sizes
+pub mod Lent

@@ -1,10 +1,11 @@
-// What everything stands on: a byte by its bits and its digits, a refusal before others, and the sizes that 1 asks for.
+// What everything stands on: a byte by its bits and its digits, a refusal before others, the sizes that 1 asks for, and a copy.
 ghost use mathlib.Core.Path.{_≡_};
 ghost use mathlib.Core.Bool.{cond};
 ghost use Prim.Native.Nat.{_-_, _^_, _<_};
 ghost use Rattle.digits.specs.Bits.{one, bit, withBit};
 ghost use Rattle.digits.specs.Digits.{bothDecimal};
 ghost use Rattle.digits.specs.Sizes.{storageWrong, sizesWrong};
+ghost use Rattle.digits.specs.Lent.{copied};
 
 // A bit that is on is 1.
 pub fn one(on: bool) -> u8
@@ -74,4 +75,15 @@ pub fn sizes_wrong(store: usize, main: usize, local: usize) -> bool
     ensures { λ r. ⌜ r ≡ sizesWrong store main local ⌝ }
 {
     (store == 0) | ((4096 < store) | storage_wrong(main, local))
+}
+
+// Puts `from` at the front of `to`, as far as there is room.
+pub fn copy(from: &[u8], to: &mut [u8])
+    ensures { λ _. ⌜ now (to .exit) ≡ copied (now (from .entry)) (now (to .entry)) ⌝ }
+{
+    let mut i = 0;
+    while (i < from.len()) & (i < to.len()) {
+        to[i] = from[i];
+        i += 1;
+    }
 }

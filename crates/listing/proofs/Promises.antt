@@ -11,7 +11,7 @@ use Rattle.digits.specs.Refusal.{first, answer, Given}
 use Rattle.digits.proofs.Refusals.{Tells, exactly, same-refusal, given-none}
 use Rattle.digits.proofs.Sole.{sole}
 use Rattle.digits.proofs.Truth.{zero-one}
-use Rattle.deck.specs.Lists.{over}
+use Rattle.digits.specs.Lent.{over}
 use Rattle.deck.specs.Deck.{readChecks, readOf, wordsOf}
 use Rattle.deck.proofs.Answers.{was-read}
 use Rattle.listing.specs.Listing.{textLine, linesOf, zerosInFront, decimal, refusedWord, refusalOf, textOf, textChecks, putOf, roomAfter}

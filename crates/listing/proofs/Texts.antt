@@ -9,7 +9,8 @@ use borrow.Author.Tests.{lt-ltb, le-ltb}
 use lib.ListN.{length, getD, take, drop, length-append}
 use Rattle.digits.specs.Refusal.{first}
 use Rattle.digits.proofs.Refusals.{same-refusal}
-use Rattle.deck.specs.Lists.{inTurn, over}
+use Rattle.digits.specs.Lent.{over}
+use Rattle.deck.specs.Lists.{inTurn}
 use Rattle.deck.specs.Deck.{readChecks, readOf, wordsAfter, wordsOf}
 use Rattle.deck.specs.declared.Reading.the-variants as R
 use Rattle.deck.proofs.Lists.{placed-step}

@@ -5,7 +5,8 @@ use mathlib.Core.Bool.{cond}
 use lib.Dec.{ltb}
 use lib.ListN.{length, drop}
 use Rattle.digits.specs.Refusal.{Check, first, answer}
-use Rattle.deck.specs.Lists.{inTurn, over}
+use Rattle.digits.specs.Lent.{over}
+use Rattle.deck.specs.Lists.{inTurn}
 use Rattle.deck.specs.Number.{digitsOf}
 use Rattle.deck.specs.Deck.{readChecks, roomWrong, wordsOf}
 use Rattle.listing.specs.declared.Listed.{Listed}

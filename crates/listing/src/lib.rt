@@ -3,7 +3,7 @@ ghost use mathlib.Core.Path.{_≡_};
 ghost use mathlib.Core.List.{_++_};
 ghost use Prim.Native.Nat.{_+_, _*_, _<_, _≤_};
 ghost use lib.ListN.{length};
-ghost use Rattle.deck.specs.Lists.{over};
+ghost use Rattle.digits.specs.Lent.{over};
 ghost use Rattle.listing.specs.Listing.{capital, hexadecimal, textLine, linesOf, zerosInFront, refusalOf, textOf, putOf, roomAfter};
 use deck::Reading;
 
@@ -43,18 +43,6 @@ fn line(address: u64, word: u64) -> [u8; 19]
     text
 }
 
-// Copies all of `from` to the front of `to`.
-fn copy(from: &[u8], to: &mut [u8])
-    requires { ⌜ length (now from) ≤ length (now to) ⌝ }
-    ensures { λ _. ⌜ now (to .exit) ≡ over (now (from .entry)) (now (to .entry)) ⌝ }
-{
-    let mut i = 0;
-    while i < from.len() {
-        to[i] = from[i];
-        i += 1;
-    }
-}
-
 fn put_lines(words: &[u64], text: &mut [u8])
     requires { ⌜ 19 * length (now words) ≤ length (now text) ⌝ }
     ensures { λ _. ⌜ now (text .exit) ≡ over (linesOf (now (words .entry))) (now (text .entry)) ⌝ }
@@ -63,7 +51,7 @@ fn put_lines(words: &[u64], text: &mut [u8])
     while i < words.len() {
         let at = 19 * i;
         let end = at + 19;
-        copy(&line(i as u64, words[i]), &mut text[at..end]);
+        digits::copy(&line(i as u64, words[i]), &mut text[at..end]);
         i += 1;
     }
 }
@@ -101,8 +89,8 @@ fn put_both(first: &[u8], second: &[u8], text: &mut [u8]) -> Listed
     if text.len() < end {
         return Listed::Refused(19);
     }
-    copy(first, text);
-    copy(second, &mut text[at..end]);
+    digits::copy(first, text);
+    digits::copy(second, &mut text[at..end]);
     Listed::Text(end)
 }
 

@@ -19,7 +19,7 @@ use Rattle.run.specs.Run.{runOf}
 use Rattle.run.specs.declared.Finished.{Finished}
 use Rattle.decimal.specs.Entry.{addOf}
 use Rattle.decimal.specs.declared.Added.{Added}
-use Rattle.deck.specs.Lists.{over}
+use Rattle.digits.specs.Lent.{over}
 use Rattle.panel.specs.Record.{loaded, fieldsIn}
 use Rattle.panel.specs.Answers.{REFUSED, coded, counted, answered, answerApart, takeApartCall, answerPacked, packCall, called, cycled, cycledBy, cycleCall, endingCode, recordAfter, ranBy, runCall, addedCode, addedBy, addDecimalCall}
 

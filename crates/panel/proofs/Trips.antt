@@ -12,7 +12,7 @@ use lib.Seq.{drop-cons}
 use lib.Pow.{split, high, low}
 use Rattle.digits.specs.Bits.{one}
 use Rattle.digits.proofs.Truth.{zero-one}
-use Rattle.deck.specs.Lists.{over}
+use Rattle.digits.specs.Lent.{over}
 use Rattle.word.specs.declared.Fields.{Fields}
 use Rattle.machine.specs.declared.State.{State}
 use Rattle.panel.specs.Record.{Lamps, byte, pair, latch, Value, Values, size, width, lampBytes, valueAt, save, load, channels, valuesOf, stateBy, saved, loaded, fieldBytes, fieldsIn}

@@ -21,7 +21,7 @@ use Rattle.run.specs.declared.Ending.the-variants as E
 use Rattle.decimal.specs.Entry.{addOf}
 use Rattle.decimal.specs.declared.Added.{Added}
 use Rattle.decimal.specs.declared.Added.the-variants as D
-use Rattle.deck.specs.Lists.{over}
+use Rattle.digits.specs.Lent.{over}
 use Rattle.deck.specs.Deck.{readOf, wordsAfter, writeOf, deckAfter}
 use Rattle.deck.specs.declared.Reading.{Reading}
 use Rattle.deck.specs.declared.Reading.the-variants as R

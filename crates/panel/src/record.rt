@@ -2,7 +2,7 @@
 ghost use mathlib.Core.Path.{_≡_};
 ghost use Prim.Native.Nat.{_+_, _*_, _≤_};
 ghost use lib.ListN.{length};
-ghost use Rattle.deck.specs.Lists.{over};
+ghost use Rattle.digits.specs.Lent.{over};
 ghost use Rattle.panel.specs.Record.{saved, loaded, fieldBytes, fieldsIn};
 use machine::State;
 use word::Fields;
@@ -74,25 +74,13 @@ fn record_of(s: State) -> [u8; 22]
     ]
 }
 
-// Puts all of `from` at the front of `to`.
-fn put(from: &[u8], to: &mut [u8])
-    requires { ⌜ length (now from) ≤ length (now to) ⌝ }
-    ensures { λ _. ⌜ now (to .exit) ≡ over (now (from .entry)) (now (to .entry)) ⌝ }
-{
-    let mut i = 0;
-    while i < from.len() {
-        to[i] = from[i];
-        i += 1;
-    }
-}
-
 // Puts the record of a state.
 pub(crate) fn save(s: State, bytes: &mut [u8])
     requires { ⌜ 22 ≤ length (now bytes) ⌝ }
     ensures { λ _. ⌜ now (bytes .exit) ≡ over (saved s) (now (bytes .entry)) ⌝ }
 {
     let shown = record_of(s);
-    put(&shown[0..22], bytes);
+    digits::copy(&shown[0..22], bytes);
 }
 
 // The fields that stand in word order, one to a byte.
@@ -154,5 +142,5 @@ pub(crate) fn put_fields(f: Fields, bytes: &mut [u8])
     ensures { λ _. ⌜ now (bytes .exit) ≡ over (fieldBytes f) (now (bytes .entry)) ⌝ }
 {
     let shown = field_bytes(f);
-    put(&shown[0..18], bytes);
+    digits::copy(&shown[0..18], bytes);
 }

@@ -9,7 +9,7 @@ use Rattle.digits.specs.Refusal.{first}
 use Rattle.word.specs.Word.{packed, inWidth}
 use Rattle.deck.specs.Deck.{wordChecks, writeChecks, deckOf, deckAfter}
 use Rattle.deck.proofs.Answers.{write-accepted}
-use Rattle.deck.proofs.Walks.{over-full}
+use Rattle.digits.proofs.Copies.{over-full}
 use Rattle.deck.proofs.Written.{length-deck}
 use Rattle.decimal.specs.Program.{shipped}
 

@@ -6,7 +6,7 @@ use native.Mathlib.Omega.{arith}
 use lib.ListN.{length, take, drop, length-set}
 use lib.Seq.{take-all}
 use borrow.Author.Needs.{needs}
-use Rattle.deck.proofs.Walks.{copy-step}
+use Rattle.digits.proofs.Copies.{copy-step}
 use Rattle.deck.proofs.copy.Statement.{statement}
 use Rattle.deck.proofs.copy.Tie as tie
 

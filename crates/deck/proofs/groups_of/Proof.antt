@@ -8,7 +8,7 @@ use lib.ListN.{length, getD, take, drop, length-set, length-take, length-drop}
 use lib.Seq.{take-all}
 use borrow.Author.Needs.{needs}
 use Rattle.deck.specs.Deck.{groupsOf}
-use Rattle.deck.proofs.Walks.{copy-step}
+use Rattle.digits.proofs.Copies.{copy-step}
 use Rattle.deck.proofs.Groups.{length-groups, groups-at}
 use Rattle.deck.proofs.groups_of.Statement.{statement}
 use Rattle.deck.proofs.groups_of.Tie as tie

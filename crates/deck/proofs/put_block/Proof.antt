@@ -9,7 +9,8 @@ use borrow.Author.Needs.{needs}
 use Rattle.deck.specs.Lists.{joined}
 use Rattle.deck.specs.Number.{digitsOf}
 use Rattle.deck.specs.Deck.{bytesOf}
-use Rattle.deck.proofs.Walks.{Put, put-none, put-turn, put-all, over-full}
+use Rattle.digits.proofs.Copies.{over-full}
+use Rattle.deck.proofs.Walks.{Put, put-none, put-turn, put-all}
 use Rattle.deck.proofs.Groups.{length-bytes}
 use Rattle.deck.proofs.Lists.{joined-step}
 use Rattle.deck.proofs.put_block.Statement.{statement}

@@ -5,10 +5,10 @@ use native.Mathlib.Nat.{add-sub-cancel-left}
 use native.Mathlib.Omega.{arith}
 use lib.ListN.{length, take, drop, length-take}
 use borrow.Author.Needs.{needs}
-use Rattle.deck.specs.Lists.{over}
+use Rattle.digits.specs.Lent.{over}
 use Rattle.deck.specs.Deck.{countIn, wordsIn}
 use Rattle.deck.proofs.Decks.{length-words}
-use Rattle.deck.proofs.Walks.{over-full}
+use Rattle.digits.proofs.Copies.{over-full}
 use Rattle.deck.proofs.put_words.Statement.{statement}
 use Rattle.deck.proofs.put_words.Tie as tie
 

@@ -5,7 +5,8 @@ use native.Mathlib.Nat.{add-sub-cancel-left}
 use native.Mathlib.Omega.{arith}
 use lib.ListN.{length, getD, take, drop, length-take, length-drop, drop-of-length-le}
 use borrow.Author.Needs.{needs}
-use Rattle.deck.proofs.Walks.{over-full, Put, put-none, put-turn, put-all}
+use Rattle.digits.proofs.Copies.{copied-full}
+use Rattle.deck.proofs.Walks.{Put, put-none, put-turn, put-all}
 use Rattle.listing.specs.Listing.{textLine, linesOf}
 use Rattle.listing.proofs.Texts.{length-line, length-lines, restOf, rest-step}
 use Rattle.listing.proofs.put_lines.Statement.{statement}
@@ -31,8 +32,8 @@ loop-again c =
     let k : at + 19 - at ≡ 19 = add-sub-cancel-left at 19 in
     let next : 19 * (l .i + 1) ≡ at + 19 = omega arith in
     let x = c .before .before .copy .last .1 .0 in
-    let m : length (take 19 (drop at (l .text))) ≤ length new = rw (length-take 19 (drop at (l .text)), length-line) (omega arith) in
-    let y : x ≡ new = (rw (k, c .before .before .before .before .before .line .ensures) at (c .before .before .copy .ensures)) ∙ over-full new _ m in
+    let m : length (take 19 (drop at (l .text))) ≡ length new = rw (length-take 19 (drop at (l .text)), length-drop at (l .text), length-line) (omega arith) in
+    let y : x ≡ new = (rw (k, c .before .before .before .before .before .line .ensures) at (c .before .before .copy .ensures)) ∙ copied-full new (take 19 (drop at (l .text))) m in
     (search needs, rw (k, next) (put-turn (l .inv .1) new _ x 19 (rest-step ws (l .i) (omega arith)) (length-line _ _) y (omega (arith, length-lines ws))))
 
 returns : tie.Need-returns Inv-loop μ-loop
@@ -57,7 +58,7 @@ put-lines-spec =
     (λ c. search needs)
     (λ c. search needs)
     (λ c. search needs)
-    (λ c κs. simp (length-take, length-drop) (omega arith))
+    (λ c κs. tt)
     (λ c. search needs)
     (λ c. search needs)
     loop-again

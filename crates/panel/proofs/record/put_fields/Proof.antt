@@ -1,5 +1,6 @@
 -- The fields, over what was lent. Assumes nothing.
 use mathlib.Core.Path.{_∙_}
+use Rattle.digits.proofs.Copies.{copied-all}
 use Rattle.panel.specs.Record.{fieldBytes}
 use borrow.Author.Needs.{needs}
 use Rattle.panel.proofs.record.put_fields.Statement.{statement}
@@ -7,7 +8,10 @@ use Rattle.panel.proofs.record.put_fields.Tie as tie
 
 returns : tie.Need-returns
 unfolding fieldBytes
-returns c = c .before .before .put .ensures ∙ rw (c .before .before .before .before .before .before .field-bytes .ensures)
+returns c =
+    let a = c .before .before .before .before .before .before .before .before .args in
+    c .before .before .copy .ensures
+    ∙ rw (c .before .before .before .before .before .before .field-bytes .ensures) (copied-all (fieldBytes (a .f)) (a .bytes .now) (search needs))
 
 pub put-fields-spec : {M : Type 1} → statement M
 put-fields-spec =
@@ -17,6 +21,6 @@ put-fields-spec =
     (λ c. search needs)
     (λ c. search needs)
     (λ c. search needs)
-    (λ c κs. search needs)
+    (λ c κs. tt)
     (λ c. search needs)
     returns)

@@ -1,5 +1,6 @@
 -- The record, over what was lent. Assumes nothing.
 use mathlib.Core.Path.{_∙_}
+use Rattle.digits.proofs.Copies.{copied-all}
 use Rattle.panel.specs.Record.{saved}
 use borrow.Author.Needs.{needs}
 use Rattle.panel.proofs.record.save.Statement.{statement}
@@ -7,9 +8,12 @@ use Rattle.panel.proofs.record.save.Tie as tie
 
 returns : tie.Need-returns
 unfolding saved
-returns c = c .before .before .put .ensures ∙ rw (c .before .before .before .before .before .before .record-of .ensures)
+returns c =
+    let a = c .before .before .before .before .before .before .before .before .args in
+    c .before .before .copy .ensures
+    ∙ rw (c .before .before .before .before .before .before .record-of .ensures) (copied-all (saved (a .s)) (a .bytes .now) (search needs))
 
 pub save-spec : {M : Type 1} → statement M
 save-spec =
     tie.close
-    (tie.spec (λ c κs. tt) (λ c. search needs) (λ c. search needs) (λ c. search needs) (λ c κs. search needs) (λ c. search needs) returns)
+    (tie.spec (λ c κs. tt) (λ c. search needs) (λ c. search needs) (λ c. search needs) (λ c κs. tt) (λ c. search needs) returns)
