@@ -119,3 +119,30 @@ fn every_must_fail_edit_is_cited() {
     }
     assert!(lost.is_empty(), "cited nowhere: {lost:?}");
 }
+
+/// The name of the public function that the line declares.
+fn public_function(line: &str) -> Option<&str> {
+    let rest = line.strip_prefix("pub ")?;
+    let rest = rest.strip_prefix("extern \"C\" ").unwrap_or(rest).strip_prefix("fn ")?;
+    rest.split('(').next()
+}
+
+#[test]
+fn promises_has_every_public_function() {
+    let promises = fs::read_to_string(root().join("docs/PROMISES.md")).expect("PROMISES.md");
+    let crates = fs::read_dir(root().join("crates")).expect("crates");
+    let mut count = 0;
+    let mut lost = Vec::new();
+    for home in crates.flatten() {
+        let crate_name = home.file_name().to_string_lossy().into_owned();
+        for name in text_below(&home.path().join("src")).lines().filter_map(public_function) {
+            count += 1;
+            let citation = format!("`{crate_name}:{name}`");
+            if !promises.contains(&citation) {
+                lost.push(citation);
+            }
+        }
+    }
+    assert!(count > 50, "only {count} public functions were found");
+    assert!(lost.is_empty(), "not in PROMISES.md: {lost:?}");
+}
