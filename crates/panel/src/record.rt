@@ -1,11 +1,18 @@
 // Bytes to a state and back, and to the fields of a word and back.
 ghost use mathlib.Core.Path.{_≡_};
 ghost use Prim.Native.Nat.{_+_, _*_, _≤_};
-ghost use lib.ListN.{length};
+ghost use lib.ListN.{length, getD};
 ghost use Rattle.digits.specs.Lent.{over};
 ghost use Rattle.panel.specs.Record.{saved, loaded, fieldBytes, fieldsIn};
 use machine::State;
 use word::Fields;
+
+// The byte at a place, or 0 past the end.
+fn byte_at(bytes: &[u8], place: usize) -> u8
+    ensures { λ r. ⌜ r ≡ getD (now (bytes .entry)) place 0 ⌝ }
+{
+    if place < bytes.len() { bytes[place] } else { 0 }
+}
 
 // A number of two bytes, high byte first.
 fn pair(high: u8, low: u8) -> u16
@@ -16,31 +23,30 @@ fn pair(high: u8, low: u8) -> u16
 
 // The state that a record shows.
 pub(crate) fn load(bytes: &[u8]) -> State
-    requires { ⌜ 22 ≤ length (now bytes) ⌝ }
     ensures { λ r. ⌜ r ≡ loaded (now (bytes .entry)) ⌝ }
 {
     State {
-        i: bytes[0],
-        j: bytes[1],
-        u: bytes[2],
-        v: bytes[3],
-        l: bytes[4],
-        t: bytes[5],
-        d: bytes[6],
-        r: bytes[7],
-        s: bytes[8],
-        g: bytes[9],
-        h: bytes[10],
-        m: bytes[11],
-        n: bytes[12],
-        wx: pair(bytes[13], bytes[14]),
-        ac: bytes[15] != 0,
-        one_bc: bytes[16] != 0,
-        z0: bytes[17] != 0,
-        allow_write: bytes[18] != 0,
-        local_selected: bytes[19] != 0,
-        arriving: bytes[20] != 0,
-        arriving_byte: bytes[21],
+        i: byte_at(bytes, 0),
+        j: byte_at(bytes, 1),
+        u: byte_at(bytes, 2),
+        v: byte_at(bytes, 3),
+        l: byte_at(bytes, 4),
+        t: byte_at(bytes, 5),
+        d: byte_at(bytes, 6),
+        r: byte_at(bytes, 7),
+        s: byte_at(bytes, 8),
+        g: byte_at(bytes, 9),
+        h: byte_at(bytes, 10),
+        m: byte_at(bytes, 11),
+        n: byte_at(bytes, 12),
+        wx: pair(byte_at(bytes, 13), byte_at(bytes, 14)),
+        ac: byte_at(bytes, 15) != 0,
+        one_bc: byte_at(bytes, 16) != 0,
+        z0: byte_at(bytes, 17) != 0,
+        allow_write: byte_at(bytes, 18) != 0,
+        local_selected: byte_at(bytes, 19) != 0,
+        arriving: byte_at(bytes, 20) != 0,
+        arriving_byte: byte_at(bytes, 21),
     }
 }
 
@@ -85,28 +91,27 @@ pub(crate) fn save(s: State, bytes: &mut [u8])
 
 // The fields that stand in word order, one to a byte.
 pub(crate) fn fields_in(bytes: &[u8]) -> Fields
-    requires { ⌜ 18 ≤ length (now bytes) ⌝ }
     ensures { λ r. ⌜ r ≡ fieldsIn (now (bytes .entry)) ⌝ }
 {
     Fields {
-        cn: bytes[0],
-        ch: bytes[1],
-        cl: bytes[2],
-        cm: bytes[3],
-        cu: bytes[4],
-        ca: bytes[5],
-        aa: bytes[6],
-        cb: bytes[7],
-        ck: bytes[8],
-        ak: bytes[9],
-        pk: bytes[10],
-        cd: bytes[11],
-        cf: bytes[12],
-        cg: bytes[13],
-        cv: bytes[14],
-        cc: bytes[15],
-        cs: bytes[16],
-        asb: bytes[17],
+        cn: byte_at(bytes, 0),
+        ch: byte_at(bytes, 1),
+        cl: byte_at(bytes, 2),
+        cm: byte_at(bytes, 3),
+        cu: byte_at(bytes, 4),
+        ca: byte_at(bytes, 5),
+        aa: byte_at(bytes, 6),
+        cb: byte_at(bytes, 7),
+        ck: byte_at(bytes, 8),
+        ak: byte_at(bytes, 9),
+        pk: byte_at(bytes, 10),
+        cd: byte_at(bytes, 11),
+        cf: byte_at(bytes, 12),
+        cg: byte_at(bytes, 13),
+        cv: byte_at(bytes, 14),
+        cc: byte_at(bytes, 15),
+        cs: byte_at(bytes, 16),
+        asb: byte_at(bytes, 17),
     }
 }
 

@@ -1,9 +1,36 @@
 -- Each register, S, and WX. Assumes nothing.
+use mathlib.Core.Path.{ap, _∙_}
+use Rattle.machine.specs.Status.{statusOf}
 use Rattle.machine.proofs.after.Statement.{statement}
 use Rattle.machine.proofs.after.Tie as tie
 
 returns : tie.Need-returns
-returns c = rw (c .next-of .ensures, c .before .into11 .ensures, c .before .before .into10 .ensures, c .before .before .before .status .ensures, c .before .before .before .before .into9 .ensures, c .before .before .before .before .before .into8 .ensures, c .before .before .before .before .before .before .into7 .ensures, c .before .before .before .before .before .before .before .into6 .ensures, c .before .before .before .before .before .before .before .before .into5 .ensures, c .before .before .before .before .before .before .before .before .before .into4 .ensures, c .before .before .before .before .before .before .before .before .before .before .into3 .ensures, c .before .before .before .before .before .before .before .before .before .before .before .into2 .ensures, c .before .before .before .before .before .before .before .before .before .before .before .before .into .ensures)
+returns c =
+    let a = c .before .before .before .before .before .before .before .before .before .before .before .before .before .args in
+    let s = c .before .before .before .status .ensures ∙ ap (statusOf (a .f) (a .z)) (c .before .before .before .before .into9 .ensures) in
+    λ k. record {
+      i = c .before .before .before .before .before .before .before .before .before .before .before .before .into .ensures k;
+      j = c .before .before .before .before .before .before .before .before .before .before .before .into2 .ensures k;
+      u = c .before .before .before .before .before .before .before .before .before .before .into3 .ensures k;
+      v = c .before .before .before .before .before .before .before .before .before .into4 .ensures k;
+      l = c .before .before .before .before .before .before .before .before .into5 .ensures k;
+      t = c .before .before .before .before .before .before .before .into6 .ensures k;
+      d = c .before .before .before .before .before .before .into7 .ensures k;
+      r = c .before .before .before .before .before .into8 .ensures k;
+      s = s k;
+      g = c .before .before .into10 .ensures k;
+      h = c .before .into11 .ensures k;
+      m = a .a .m;
+      n = a .a .n;
+      wx = c .next-of .ensures k;
+      ac = a .z .ac;
+      «one_bc» = a .z .«one_bc»;
+      z0 = a .z .z0;
+      «allow_write» = a .a .latch;
+      «local_selected» = a .a .local;
+      arriving = a .a .fetches;
+      «arriving_byte» = a .fetched;
+    }
 
 pub after-spec : {M : Type 1} → statement M
 after-spec =

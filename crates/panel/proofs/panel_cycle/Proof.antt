@@ -29,7 +29,7 @@ panel-cycle-spec =
     (tie.spec
     (λ c κs. tt)
     returns
-    (λ c κs. search needs)
+    (λ c κs. tt)
     (λ c κs. tt)
     (λ c. search needs)
     (λ c κs. search needs)

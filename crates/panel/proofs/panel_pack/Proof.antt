@@ -11,9 +11,6 @@ use Rattle.panel.proofs.panel_pack.Tie as tie
 returns : tie.Need-returns
 returns c = pack-short _ _ _ (c .if1 .taken)
 
-fields-in-requires : tie.Need-fields-in-requires
-fields-in-requires c κs = let a = c .before .before .before .args in room (length (now (a .fields))) (length (now (a .word))) (c .if1 .left) .0
-
 slice-write-word : tie.Need-slice-write-word
 slice-write-word c = let a = c .before .before .before .before .before .before .before .before .args in room (length (now (a .fields))) (length (now (a .word))) (c .before .before .before .before .before .if1 .left) .1
 
@@ -32,7 +29,7 @@ panel-pack-spec =
     tie.close
     (tie.spec
     returns
-    fields-in-requires
+    (λ c κs. tt)
     (λ c κs. tt)
     (λ c. search needs)
     slice-write-word

@@ -18,7 +18,7 @@ panel-run-spec =
     (λ c κs. tt)
     (λ c κs. tt)
     returns
-    (λ c κs. search needs)
+    (λ c κs. tt)
     (λ c κs. tt)
     (λ c κs. search needs)
     (λ c κs. tt)
