@@ -103,9 +103,10 @@ fn mix_answer(digest: u64, c: Cycled, main: &[u8], local: &[u8], before: State) 
     agree::mix(d, byte_at(main, at) as u64 * 256 + byte_at(local, n) as u64)
 }
 
-fn count(c: Cycled, numbers: &mut [u32], fields: &mut [u32]) {
-    agree::tally(numbers, number_of(c) as usize);
-    agree::tally(fields, field_of(c) as usize);
+// An answer is counted at its number, and at 256 more than its field.
+fn count(c: Cycled, counts: &mut [u32]) {
+    agree::tally(counts, number_of(c) as usize);
+    agree::tally(counts, 256 + field_of(c) as usize);
 }
 
 fn by_rule(
@@ -114,11 +115,10 @@ fn by_rule(
     main: &mut [u8],
     local: &mut [u8],
     s: State,
-    numbers: &mut [u32],
-    fields: &mut [u32],
+    counts: &mut [u32],
 ) -> u64 {
     let answer = machine::cycle(store, main, local, s);
-    count(answer, numbers, fields);
+    count(answer, counts);
     mix_answer(digest, answer, main, local, s)
 }
 
@@ -134,8 +134,7 @@ fn lend_to_rule(
     store: &mut [u64],
     main: &mut [u8],
     local: &mut [u8],
-    numbers: &mut [u32],
-    fields: &mut [u32],
+    counts: &mut [u32],
 ) -> u64 {
     put(store, c.state.wx as usize, c.word);
     let words = agree::at_most(c.lent.words, store.len());
@@ -147,8 +146,7 @@ fn lend_to_rule(
         &mut main[0..m],
         &mut local[0..l],
         c.state,
-        numbers,
-        fields,
+        counts,
     )
 }
 
@@ -173,8 +171,7 @@ fn case(
     local: &mut [u8],
     main_t: &mut [u8],
     local_t: &mut [u8],
-    numbers: &mut [u32],
-    fields: &mut [u32],
+    counts: &mut [u32],
 ) -> Going {
     let a = agree::next(g.x);
     let b = agree::next(a);
@@ -183,7 +180,7 @@ fn case(
     let f = agree::next(e);
     let last = agree::next(f);
     let case = drawn(a, b, c, e, f, last);
-    let d = lend_to_rule(case, g.digest, store, main, local, numbers, fields);
+    let d = lend_to_rule(case, g.digest, store, main, local, counts);
     Going {
         x: last,
         digest: lend_to_table(case, d, store, main_t, local_t),
@@ -198,12 +195,11 @@ fn cases(
     local: &mut [u8],
     main_t: &mut [u8],
     local_t: &mut [u8],
-    numbers: &mut [u32],
-    fields: &mut [u32],
+    counts: &mut [u32],
 ) -> Going {
     let mut g = g;
     for k in 0..10000u32 {
-        g = case(g, store, main, local, main_t, local_t, numbers, fields);
+        g = case(g, store, main, local, main_t, local_t, counts);
     }
     let d = agree::mix_bytes(agree::mix_bytes(g.digest, main), local);
     Going {
@@ -212,28 +208,28 @@ fn cases(
     }
 }
 
-fn report(numbers: &[u32], fields: &[u32]) {
-    agree::print_count(b"ran", agree::counted(numbers, 100));
-    agree::print_count(b"stopped", agree::counted(numbers, 101));
+fn report(counts: &[u32]) {
+    agree::print_count(b"ran", agree::counted(counts, 100));
+    agree::print_count(b"stopped", agree::counted(counts, 101));
     for k in 1..12usize {
         io::write_all(STDOUT_FILENO, b"refused ");
         io::print_decimal(STDOUT_FILENO, k as u64);
-        agree::print_count(b"", agree::counted(numbers, k));
+        agree::print_count(b"", agree::counted(counts, k));
     }
-    report_fields(fields);
+    report_fields(counts);
 }
 
-fn report_fields(fields: &[u32]) {
-    agree::print_count(b"CH", agree::counted(fields, 4));
-    agree::print_count(b"CL", agree::counted(fields, 5));
-    agree::print_count(b"CM", agree::counted(fields, 6));
-    agree::print_count(b"CU", agree::counted(fields, 7));
-    agree::print_count(b"CA", agree::counted(fields, 8));
-    agree::print_count(b"AA", agree::counted(fields, 9));
-    agree::print_count(b"AK", agree::counted(fields, 12));
-    agree::print_count(b"CD", agree::counted(fields, 15));
-    agree::print_count(b"CS", agree::counted(fields, 20));
-    agree::print_count(b"AS", agree::counted(fields, 21));
+fn report_fields(counts: &[u32]) {
+    agree::print_count(b"CH", agree::counted(counts, 256 + 4));
+    agree::print_count(b"CL", agree::counted(counts, 256 + 5));
+    agree::print_count(b"CM", agree::counted(counts, 256 + 6));
+    agree::print_count(b"CU", agree::counted(counts, 256 + 7));
+    agree::print_count(b"CA", agree::counted(counts, 256 + 8));
+    agree::print_count(b"AA", agree::counted(counts, 256 + 9));
+    agree::print_count(b"AK", agree::counted(counts, 256 + 12));
+    agree::print_count(b"CD", agree::counted(counts, 256 + 15));
+    agree::print_count(b"CS", agree::counted(counts, 256 + 20));
+    agree::print_count(b"AS", agree::counted(counts, 256 + 21));
 }
 
 fn blocks(
@@ -243,23 +239,13 @@ fn blocks(
     main_t: &mut [u8],
     local_t: &mut [u8],
 ) {
-    let mut numbers = [0u32; 256];
-    let mut fields = [0u32; 256];
+    let mut counts = [0u32; 512];
     let mut g = Going { x: 13, digest: 4 };
     for k in 0..24u32 {
-        g = cases(
-            g,
-            store,
-            main,
-            local,
-            main_t,
-            local_t,
-            &mut numbers,
-            &mut fields,
-        );
+        g = cases(g, store, main, local, main_t, local_t, &mut counts);
         agree::print_digest(k as u64 * 10000 + 10000, g.digest);
     }
-    report(&numbers, &fields);
+    report(&counts);
 }
 
 fn main() {

@@ -72,26 +72,19 @@ fn drawn_length(x: u64) -> usize {
 
 // Sizes that are wrong in one of four ways, lengths and starts as large as numbers go, or one field twice.
 fn altered(which: u64, t: Trial) -> Trial {
+    let mut t = t;
     match which {
-        0 => Trial { main: 0, ..t },
-        1 => Trial { main: 65537, ..t },
-        2 => Trial { local: 255, ..t },
-        3 => Trial { local: 257, ..t },
-        4 => Trial {
-            length: 0xFFFF_FFFF_FFFF_FFFF,
-            ..t
-        },
-        5 => Trial {
-            first: 0xFFFF_FFFF_FFFF_FFFF,
-            ..t
-        },
-        6 => Trial {
-            second: 0xFFFF_FFFF_FFFF_FFF8,
-            ..t
-        },
-        7 | 8 | 9 | 10 | 11 | 12 | 13 | 14 => same(t),
-        _ => t,
+        0 => t.main = 0,
+        1 => t.main = 65537,
+        2 => t.local = 255,
+        3 => t.local = 257,
+        4 => t.length = 0xFFFF_FFFF_FFFF_FFFF,
+        5 => t.first = 0xFFFF_FFFF_FFFF_FFFF,
+        6 => t.second = 0xFFFF_FFFF_FFFF_FFF8,
+        7 | 8 | 9 | 10 | 11 | 12 | 13 | 14 => t = same(t),
+        _ => (),
     }
+    t
 }
 
 // The second field is the first.

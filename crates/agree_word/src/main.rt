@@ -82,26 +82,28 @@ fn apart(g: Going, counts: &mut [u32]) -> Going {
 
 // The fields with one of them any byte.
 fn widened(f: Fields, which: u64, byte: u8) -> Fields {
+    let mut f = f;
     match which {
-        0 => Fields { cn: byte, ..f },
-        1 => Fields { ch: byte, ..f },
-        2 => Fields { cl: byte, ..f },
-        3 => Fields { cm: byte, ..f },
-        4 => Fields { cu: byte, ..f },
-        5 => Fields { ca: byte, ..f },
-        6 => Fields { aa: byte, ..f },
-        7 => Fields { cb: byte, ..f },
-        8 => Fields { ck: byte, ..f },
-        9 => Fields { ak: byte, ..f },
-        10 => Fields { pk: byte, ..f },
-        11 => Fields { cd: byte, ..f },
-        12 => Fields { cf: byte, ..f },
-        13 => Fields { cg: byte, ..f },
-        14 => Fields { cv: byte, ..f },
-        15 => Fields { cc: byte, ..f },
-        16 => Fields { cs: byte, ..f },
-        _ => Fields { asb: byte, ..f },
+        0 => f.cn = byte,
+        1 => f.ch = byte,
+        2 => f.cl = byte,
+        3 => f.cm = byte,
+        4 => f.cu = byte,
+        5 => f.ca = byte,
+        6 => f.aa = byte,
+        7 => f.cb = byte,
+        8 => f.ck = byte,
+        9 => f.ak = byte,
+        10 => f.pk = byte,
+        11 => f.cd = byte,
+        12 => f.cf = byte,
+        13 => f.cg = byte,
+        14 => f.cv = byte,
+        15 => f.cc = byte,
+        16 => f.cs = byte,
+        _ => f.asb = byte,
     }
+    f
 }
 
 // Fields with PK right, with one of them near its width or any byte, or with PK as it comes.

@@ -4,10 +4,10 @@ use Rattle.agree_cycle.proofs.report.Statement.{statement}
 use Rattle.agree_cycle.proofs.report.Tie as tie
 
 abbrev Inv-loop : tie.InvT-loop
-Inv-loop numbers fields k₀ t6 t7 k = k ≤ 12
+Inv-loop counts k₀ t6 t7 k = k ≤ 12
 
 abbrev μ-loop : tie.MeasureT-loop
-μ-loop numbers fields k₀ t6 t7 k = 12 - k
+μ-loop counts k₀ t6 t7 k = 12 - k
 
 pub report-spec : {M : Type 1} → statement M
 report-spec =
