@@ -4,7 +4,7 @@ use mathlib.Core.List.{List, [], _∷_}
 use mathlib.Core.Bool.{Bool, true, false, _&&_, _||_}
 use lib.Dec.{eqb}
 
--- a number is one of some
+-- the number is in the list
 abbrev pub among : ℕ → List ℕ → Bool
 among n [] = false
 among n (x ∷ xs) = eqb n x || among n xs

@@ -1,4 +1,5 @@
-//! Every name that docs/TRACE.md, docs/PROMISES.md and docs/NEXT.md cite is declared in the tree, and every must-fail edit is cited.
+//! Every name that docs/TRACE.md, PROMISES.md, NEXT.md and SIZE.md cite is declared in the tree; every must-fail edit is
+//! cited, and every public function is in PROMISES.md.
 
 use std::fs;
 use std::path::{Path, PathBuf};
@@ -96,6 +97,11 @@ fn every_name_that_promises_cites_is_declared() {
 #[test]
 fn every_name_that_next_cites_is_declared() {
     holds("NEXT.md", 100);
+}
+
+#[test]
+fn every_name_that_size_cites_is_declared() {
+    holds("SIZE.md", 10);
 }
 
 /// The edits that no document cites: each is to be laid beside what it tries.
