@@ -84,7 +84,6 @@ module _ (a b c : ℕ) (h : lows a b c < 32) where
 pub record Writes (s : Sum) (n : ℕ) : Type 0 where
   pub value : val (s .result) + 100 * one (s .ac) ≡ n
   pub decimal : bothDecimal (s .result) ≡ true
-  pub byte : s .result < 256
 
 pub both-at-most : (byte : ℕ) → bothDecimal byte ≡ true → (high byte ≤ 9) × (low byte ≤ 9)
 both-at-most byte d =
@@ -138,7 +137,6 @@ module _ (a w c : ℕ) (ad : (high a ≤ 9) × (low a ≤ 9)) (wd : (high w ≤ 
       record {
         value = rw (r, k, digits-val (left (high-n + 6)) (left (low-n + 6)) (h .0) (l .0)) (omega arith);
         decimal = rw r (digits-decimal (left (high-n + 6)) (left (low-n + 6)) (h .0) (l .0));
-        byte = rw r (omega arith);
       }
 
 sixes-raise : (b : ℕ) → (high b ≤ 9) × (low b ≤ 9) → sixes b ≡ raised b

@@ -3,3 +3,4 @@ mod Inside
 mod Scan
 pub mod Cycles
 pub mod Promises
+pub mod Bytes
