@@ -1,7 +1,7 @@
 -- The laws of the sum: of one digit, of a byte by its two digits, and of the answer. Assumes nothing.
 use Prim.Native.Nat.{ℕ, _+_, _-_, _*_, _/_, _%_, _≤_, _<_}
 use mathlib.Core.Path.{_≡_, refl, sym, ap, _∙_}
-use mathlib.Core.Bool.{Bool, true, false}
+use mathlib.Core.Bool.{Bool, true, false, cond, not, _&&_}
 use mathlib.Core.Logic.{_↔_}
 use native.Mathlib.Nat.{lt-of-le-of-lt}
 use native.Mathlib.Omega.{arith}
@@ -13,7 +13,7 @@ use Rattle.digits.specs.Bits.{one}
 use Rattle.digits.proofs.Bits.{one-lt}
 use Rattle.digits.specs.Digits.{high, low, digits, bothDecimal, val}
 use Rattle.adder.specs.Gates.{gatedA, gatedB}
-use Rattle.adder.specs.Adder.{isDecimal, isComplement, complement, turned, sixes, entering, lowered, arithmetic, logical, operations, operated, sumOf}
+use Rattle.adder.specs.Adder.{isDecimal, isComplement, complement, turned, sixes, lowered, arithmetic, logical, carryIn, operations, operated, enteringB, sumOf}
 use Rattle.adder.specs.declared.Controls.{Controls}
 use Rattle.adder.specs.declared.Sum.{Sum}
 use Rattle.digits.proofs.Table.{any}
@@ -194,37 +194,34 @@ turned-byte : (complemented : Bool) (b : ℕ) → b < 256 → turned complemente
 turned-byte true b h = omega arith
 turned-byte false b h = h
 
+entering-byte : (six complemented : Bool) (b : ℕ) → b < 256 → cond six (sixes b) (turned complemented b) < 256
+entering-byte true complemented b h = omega arith
+entering-byte false complemented b h = turned-byte complemented b h
+
 -- what holds of every sum, and of the logical results, holds of the row at any CC
-module _ (P : Sum → Type 0) (sums : (decimal : Bool) (a b c : ℕ) → P (arithmetic decimal a b c)) (s3 d : Bool) (x t e : ℕ) where
-  any-row : P (logical (bitAnd x t)) → P (logical (bitOr x t)) → P (logical (bitXor x t)) → (cc : ℕ) → P (operated cc s3 d x t e)
+module _ (P : Sum → Type 0) (sums : (decimal : Bool) (a b c : ℕ) → P (arithmetic decimal a b c)) (d : Bool) (x e : ℕ) (k : Bool) where
+  any-row : P (logical (bitAnd x e)) → P (logical (bitOr x e)) → P (logical (bitXor x e)) → (cc : ℕ) → P (operated cc d x e k)
   any-row and or xor cc =
-      any P (operations s3 d x t e) (arithmetic d x e 0)
-      (sums d x e 0, (sums d x e 1, (and, (or, (sums d x e 0, (sums d x e 1, (sums d x e (one s3), (xor, tt))))))))
-      (sums d x e 0) cc
+      let sum : P (arithmetic d x e (one k)) = sums d x e (one k) in
+      any P (operations d x e k) (arithmetic d x e (one k)) (sum, (sum, (and, (or, (sum, (sum, (sum, (xor, tt)))))))) sum cc
 
 module _ (a b : ℕ) (c : Controls) where
   abbrev the-a : ℕ
   the-a = gatedA (c .cf) a
-
-  abbrev the-b : ℕ
-  the-b = turned (isComplement (c .cv) (c .s0)) (gatedB (c .cg) b)
-
-  abbrev the-entering : ℕ
-  the-entering = entering (isDecimal (c .cv)) (isComplement (c .cv) (c .s0)) (gatedB (c .cg) b)
 
   -- bytes stay bytes
   pub sum-byte : a < 256 → b < 256 → sumOf a b c .result < 256
   unfolding sumOf
   sum-byte ab bb =
       let x = gated-a-lt (c .cf) a ab in
-      let t = turned-byte (isComplement (c .cv) (c .s0)) (gatedB (c .cg) b) (gated-b-lt (c .cg) b bb) in
-      any-row (λ (s : Sum). s .result < 256) arithmetic-byte (c .s3) (isDecimal (c .cv)) the-a the-b the-entering
-      (lt-of-le-of-lt (and-le-l the-a the-b) x) (or-lt 8 the-a the-b x t) (xor-lt 8 the-a the-b x t) (c .cc)
+      let e = entering-byte (isDecimal (c .cv) (c .cc) && not (isComplement (c .cv) (c .s0))) (isComplement (c .cv) (c .s0)) (gatedB (c .cg) b) (gated-b-lt (c .cg) b bb) in
+      any-row (λ (s : Sum). s .result < 256) arithmetic-byte (isDecimal (c .cv) (c .cc)) the-a (enteringB b c) (carryIn (c .cc) (c .s3))
+      (lt-of-le-of-lt (and-le-l the-a (enteringB b c)) x) (or-lt 8 the-a (enteringB b c) x e) (xor-lt 8 the-a (enteringB b c) x e) (c .cc)
 
   zero-test : sumOf a b c .z0 ≡ eqb (sumOf a b c .result) 0
   unfolding sumOf arithmetic
   zero-test =
-      any-row (λ (s : Sum). s .z0 ≡ eqb (s .result) 0) (λ d x e k. refl) (c .s3) (isDecimal (c .cv)) the-a the-b the-entering refl refl refl (c .cc)
+      any-row (λ (s : Sum). s .z0 ≡ eqb (s .result) 0) (λ d x e k. refl) (isDecimal (c .cv) (c .cc)) the-a (enteringB b c) (carryIn (c .cc) (c .s3)) refl refl refl (c .cc)
 
   pub zero-exactly : (sumOf a b c .z0 ≡ true) ↔ (sumOf a b c .result ≡ 0)
   zero-exactly = (λ z. eqb-true _ 0 (sym zero-test ∙ z), λ r. zero-test ∙ eq-eqb _ 0 r)

@@ -1,7 +1,7 @@
 -- The sum of A and B as gated, its correction, and the logical operations. A code beyond its field's width acts as code 0. Assumes nothing.
 use Prim.Native.Nat.{ℕ, _+_, _-_, _%_}
 use mathlib.Core.List.{List, [], _∷_}
-use mathlib.Core.Bool.{Bool, true, false, cond, not, _&&_}
+use mathlib.Core.Bool.{Bool, true, false, cond, not, _&&_, _||_}
 use lib.Bits.{bitAnd, bitOr, bitXor}
 use lib.Dec.{eqb, leb}
 use lib.ListN.{getD}
@@ -11,13 +11,19 @@ use Rattle.adder.specs.Gates.{gatedA, gatedB}
 use Rattle.adder.specs.declared.Controls.{Controls}
 use Rattle.adder.specs.declared.Uncorrected.{Uncorrected}
 use Rattle.adder.specs.declared.Sum.{Sum}
+use Rattle.adder.specs.declared.Work.{Work}
 
 -- "CV: 0 true, 1 complement, 2 true or complement as S0 is 0 or 1, 3 the same choice with decimal."
 abbrev pub isComplement : ℕ → Bool → Bool
 isComplement cv s0 = getD (false ∷ true ∷ s0 ∷ s0 ∷ []) cv false
 
-abbrev pub isDecimal : ℕ → Bool
-isDecimal cv = eqb cv 3
+-- "CC: .. 2 AND, 3 OR, .. 7 XOR."
+abbrev pub isLogical : ℕ → Bool
+isLogical cc = eqb cc 2 || (eqb cc 3 || eqb cc 7)
+
+-- "3 the same choice with decimal"; "Logical operations .. make no decimal change"
+abbrev pub isDecimal : ℕ → ℕ → Bool
+isDecimal cv cc = eqb cv 3 && not (isLogical cc)
 
 -- "Complement turns every bit of gated B."
 abbrev pub complement : ℕ → ℕ
@@ -31,7 +37,7 @@ turned complemented b = cond complemented (complement b) b
 abbrev pub sixes : ℕ → ℕ
 sixes b = digits ((high b + 6) % 16) ((low b + 6) % 16)
 
--- B as it enters the adder: "decimal complement adds none, since 15 less a digit already carries it."
+-- B as it enters: "Logical operations use B after the complement"; "decimal complement adds none, since 15 less a digit already carries it."
 abbrev pub entering : Bool → Bool → ℕ → ℕ
 entering decimal complemented b = cond (decimal && not complemented) (sixes b) (turned complemented b)
 
@@ -83,26 +89,54 @@ uncarried byte = record { byte = byte; ac = false; «one_bc» = false; «digit_c
 abbrev pub logical : ℕ → Sum
 logical byte = finished (uncarried byte)
 
--- "CC: 0 +0, 1 +1, 2 AND, 3 OR, 4 +0 save, 5 +1 save, 6 +S3 save, 7 XOR." "Logical operations use B after the complement"
-abbrev pub operations : Bool → Bool → ℕ → ℕ → ℕ → List Sum
-operations s3 decimal a turnedB enteringB =
-    arithmetic decimal a enteringB 0 ∷  -- 0
-    arithmetic decimal a enteringB 1 ∷  -- 1
-    logical (bitAnd a turnedB) ∷  -- 2
-    logical (bitOr a turnedB) ∷  -- 3
-    arithmetic decimal a enteringB 0 ∷  -- 4
-    arithmetic decimal a enteringB 1 ∷  -- 5
-    arithmetic decimal a enteringB (one s3) ∷  -- 6
-    logical (bitXor a turnedB) ∷  -- 7
+-- "CC: 0 +0, 1 +1, .. 4 +0 save, 5 +1 save, 6 +S3 save": the carry in, 0 in a logical operation
+abbrev pub carryIn : ℕ → Bool → Bool
+carryIn cc s3 =
+    getD
+    (false ∷  -- 0
+    true ∷  -- 1
+    false ∷  -- 2
+    false ∷  -- 3
+    false ∷  -- 4
+    true ∷  -- 5
+    s3 ∷  -- 6
+    false ∷  -- 7
+    []) cc false
+
+-- "CC: 0 +0, 1 +1, 2 AND, 3 OR, 4 +0 save, 5 +1 save, 6 +S3 save, 7 XOR."
+abbrev pub operations : Bool → ℕ → ℕ → Bool → List Sum
+operations decimal a b carry =
+    arithmetic decimal a b (one carry) ∷  -- 0
+    arithmetic decimal a b (one carry) ∷  -- 1
+    logical (bitAnd a b) ∷  -- 2
+    logical (bitOr a b) ∷  -- 3
+    arithmetic decimal a b (one carry) ∷  -- 4
+    arithmetic decimal a b (one carry) ∷  -- 5
+    arithmetic decimal a b (one carry) ∷  -- 6
+    logical (bitXor a b) ∷  -- 7
     []
 
-abbrev pub operated : ℕ → Bool → Bool → ℕ → ℕ → ℕ → Sum
-operated cc s3 decimal a turnedB enteringB = getD (operations s3 decimal a turnedB enteringB) cc (arithmetic decimal a enteringB 0)
+abbrev pub operated : ℕ → Bool → ℕ → ℕ → Bool → Sum
+operated cc decimal a b carry = getD (operations decimal a b carry) cc (arithmetic decimal a b (one carry))
+
+-- B as it enters, from what CB chose
+abbrev pub enteringB : ℕ → Controls → ℕ
+enteringB b c = entering (isDecimal (c .cv) (c .cc)) (isComplement (c .cv) (c .s0)) (gatedB (c .cg) b)
 
 -- what the arithmetic unit makes of the bytes that CA and CB chose
 unfoldable pub sumOf : ℕ → ℕ → Controls → Sum
-sumOf a b c =
-    let decimal : Bool = isDecimal (c .cv) in
-    let complemented : Bool = isComplement (c .cv) (c .s0) in
-    let gated : ℕ = gatedB (c .cg) b in
-    operated (c .cc) (c .s3) decimal (gatedA (c .cf) a) (turned complemented gated) (entering decimal complemented gated)
+sumOf a b c = operated (c .cc) (isDecimal (c .cv) (c .cc)) (gatedA (c .cf) a) (enteringB b c) (carryIn (c .cc) (c .s3))
+
+-- and what it does on the way: A and B as chosen, as gated and as they enter, the carry in, and the sum before and after correction
+unfoldable pub workOf : ℕ → ℕ → Controls → Work
+workOf a b c =
+    record {
+      «a_chosen» = a;
+      «a_gated» = gatedA (c .cf) a;
+      «b_chosen» = b;
+      «b_gated» = gatedB (c .cg) b;
+      «b_entering» = enteringB b c;
+      «carry_in» = carryIn (c .cc) (c .s3);
+      before = sumOf a b c .uncorrected;
+      after = sumOf a b c .result;
+    }

@@ -2,7 +2,7 @@
 ghost use mathlib.Core.Path.{_≡_};
 ghost use Prim.Native.Nat.{_<_};
 ghost use Rattle.adder.specs.Gates.{gatedA, gatedB};
-ghost use Rattle.adder.specs.Adder.{isComplement, turned, sixes, entering, summed, lowered, correctedOf, resultOf, finished, uncarried, operated, sumOf};
+ghost use Rattle.adder.specs.Adder.{isComplement, isDecimal, turned, sixes, entering, summed, lowered, correctedOf, resultOf, finished, uncarried, carryIn, operated, enteringB, sumOf, workOf};
 
 // The correction by the table. It makes the promise that the rule makes, so a caller may have either.
 mod table;
@@ -36,6 +36,18 @@ pub struct Sum {
     pub z0: bool,
     pub uncorrected: u8,
     pub digit_carry: bool,
+}
+
+// What the unit did on the way to its answer, for the lamps between the registers and the adder.
+pub struct Work {
+    pub a_chosen: u8,
+    pub a_gated: u8,
+    pub b_chosen: u8,
+    pub b_gated: u8,
+    pub b_entering: u8,
+    pub carry_in: bool,
+    pub before: u8,
+    pub after: u8,
 }
 
 // CF, row by row. Crossed, a byte has its high digit low and its low digit high.
@@ -128,33 +140,54 @@ fn uncarried(byte: u8) -> Uncorrected
     }
 }
 
+// A sum with decimal: no logical operation.
+fn is_decimal(cv: u8, cc: u8) -> bool
+    ensures { λ r. ⌜ r ≡ isDecimal cv cc ⌝ }
+{
+    (cv == 3) & !((cc == 2) | ((cc == 3) | (cc == 7)))
+}
+
+fn entering_b(b: u8, c: Controls) -> u8
+    ensures { λ r. ⌜ r ≡ enteringB b c ⌝ }
+{
+    entering(
+        is_decimal(c.cv, c.cc),
+        is_complement(c.cv, c.s0),
+        gated_b(c.cg, b),
+    )
+}
+
+fn carry_in(cc: u8, s3: bool) -> bool
+    ensures { λ r. ⌜ r ≡ carryIn cc s3 ⌝ }
+{
+    if cc < 8 {
+        [false, true, false, false, false, true, s3, false][cc as usize]
+    } else {
+        false
+    }
+}
+
 // By CC. That 4 to 6 save the carry is the cycle's to do.
-fn operated(cc: u8, s3: bool, decimal: bool, a: u8, turned: u8, entering: u8) -> Uncorrected
-    ensures { λ r. ⌜ finished r ≡ operated cc s3 decimal a turned entering ⌝ }
+fn operated(cc: u8, decimal: bool, a: u8, b: u8, carry: bool) -> Uncorrected
+    ensures { λ r. ⌜ finished r ≡ operated cc decimal a b carry ⌝ }
 {
     match cc {
-        1 | 5 => summed(decimal, a, entering, 1),
-        2 => uncarried(a & turned),
-        3 => uncarried(a | turned),
-        6 => summed(decimal, a, entering, digits::one(s3)),
-        7 => uncarried(a ^ turned),
-        _ => summed(decimal, a, entering, 0),
+        2 => uncarried(a & b),
+        3 => uncarried(a | b),
+        7 => uncarried(a ^ b),
+        _ => summed(decimal, a, b, digits::one(carry)),
     }
 }
 
 pub(crate) fn before_correction(a: u8, b: u8, c: Controls) -> Uncorrected
     ensures { λ r. ⌜ finished r ≡ sumOf a b c ⌝ }
 {
-    let decimal = c.cv == 3;
-    let complemented = is_complement(c.cv, c.s0);
-    let b = gated_b(c.cg, b);
     operated(
         c.cc,
-        c.s3,
-        decimal,
+        is_decimal(c.cv, c.cc),
         gated_a(c.cf, a),
-        turned(complemented, b),
-        entering(decimal, complemented, b),
+        entering_b(b, c),
+        carry_in(c.cc, c.s3),
     )
 }
 
@@ -199,4 +232,21 @@ pub fn add(a: u8, b: u8, c: Controls) -> Sum
 {
     let u = before_correction(a, b, c);
     finished(u, result(u))
+}
+
+// What the unit does with the bytes that CA and CB chose, step by step.
+pub fn work_of(a: u8, b: u8, c: Controls) -> Work
+    ensures { λ r. ⌜ r ≡ workOf a b c ⌝ }
+{
+    let z = add(a, b, c);
+    Work {
+        a_chosen: a,
+        a_gated: gated_a(c.cf, a),
+        b_chosen: b,
+        b_gated: gated_b(c.cg, b),
+        b_entering: entering_b(b, c),
+        carry_in: carry_in(c.cc, c.s3),
+        before: z.uncorrected,
+        after: z.result,
+    }
 }

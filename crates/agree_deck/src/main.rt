@@ -3,7 +3,7 @@ ghost use Prim.Native.Nat.{_≤_};
 use deck::Reading;
 use deck::Writing;
 use libc::STDOUT_FILENO;
-use listing::Listed;
+use text::Written;
 
 // The generator's last number, and the digest.
 struct Going {
@@ -295,8 +295,8 @@ fn mix_listed(digest: u64, deck: &[u8]) -> u64 {
     mix_text(digest, listed, &text)
 }
 
-fn mix_text(digest: u64, listed: Listed, text: &[u8]) -> u64 {
-    let Listed::Text(size) = listed else {
+fn mix_text(digest: u64, listed: Written, text: &[u8]) -> u64 {
+    let Written::Text(size) = listed else {
         return digest;
     };
     let n = agree::at_most(size, text.len());

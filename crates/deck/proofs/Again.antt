@@ -16,7 +16,7 @@ use Rattle.digits.proofs.Lines.{join-parts}
 use Rattle.digits.proofs.Refusals.{None}
 use Rattle.digits.proofs.Table.{any, each-split}
 use Rattle.digits.proofs.Truth.{both}
-use Rattle.deck.specs.Lists.{joined, inTurn, allZero}
+use Rattle.digits.specs.Lists.{joined, inTurn, allZero}
 use Rattle.deck.specs.Deck.{headWidths, countIn, wordsIn, unusedIn, headOf, sealed, blockOf, checkOf, checkIn, wordChecks, blockChecks}
 use Rattle.deck.proofs.Through.{Block}
 use Rattle.deck.proofs.Turns.{none-both}

@@ -13,8 +13,9 @@ use Rattle.digits.proofs.Refusals.{numbered, None, refuses, none-first, Tells, 
 use Rattle.digits.proofs.Table.{each-split}
 use Rattle.digits.proofs.Truth.{zero-one, neither}
 use Rattle.digits.specs.Lent.{over}
-use Rattle.deck.specs.Lists.{inTurn}
-use Rattle.deck.specs.Deck.{roomWrong, lengthWrong, wordChecks, deckChecks, blocksOf, wordsOf, readChecks, readOf, wordsAfter, blockCount, deckOf, wordsWrong, writeChecks, writeOf, deckAfter}
+use Rattle.digits.specs.Lists.{inTurn}
+use Rattle.digits.specs.Sizes.{roomWrong}
+use Rattle.deck.specs.Deck.{lengthWrong, wordChecks, deckChecks, blocksOf, wordsOf, readChecks, readOf, wordsAfter, blockCount, deckOf, wordsWrong, writeChecks, writeOf, deckAfter}
 use Rattle.deck.specs.declared.Reading.the-variants as R
 use Rattle.deck.specs.declared.Writing.the-variants as W
 use Rattle.deck.proofs.Checks.{blocks-numbered, read-numbered, write-numbered}

@@ -11,7 +11,7 @@ use lib.Seq.{take-at, drop-at, getD-at}
 use Rattle.digits.specs.Table.{Each}
 use Rattle.digits.proofs.Refusals.{None}
 use Rattle.digits.proofs.Table.{Below, each-append, each-same, each-take, each-drop}
-use Rattle.deck.specs.Lists.{joined, inTurn, allZero}
+use Rattle.digits.specs.Lists.{joined, inTurn, allZero}
 use Rattle.deck.specs.Deck.{numberIn, countIn, reservedIn, wordsIn, unusedIn, checkOf, checkIn, countWrong, headOf, wordChecks, blockChecks, blockOf}
 use Rattle.deck.proofs.Through.{Block}
 use Rattle.deck.proofs.Turns.{none-take, none-drop}

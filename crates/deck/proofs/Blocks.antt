@@ -9,7 +9,7 @@ use lib.Dec.{eqb, ltb}
 use Rattle.digits.specs.Refusal.{first}
 use Rattle.digits.proofs.Refusals.{None}
 use Rattle.digits.proofs.Truth.{neither}
-use Rattle.deck.specs.Lists.{inTurn, allZero}
+use Rattle.digits.specs.Lists.{inTurn, allZero}
 use Rattle.deck.specs.Deck.{numberIn, countIn, reservedIn, wordsIn, unusedIn, checkOf, checkIn, countWrong, totalWrong, unusedWrong, shapeWrong, wordChecks, blockChecks}
 
 -- what a right count is

@@ -7,7 +7,7 @@ use lib.ListN.{length}
 use Rattle.digits.specs.Refusal.{first}
 use Rattle.digits.proofs.Refusals.{numbered, numbered-append}
 use Rattle.word.specs.Word.{faultOf}
-use Rattle.deck.specs.Lists.{inTurn}
+use Rattle.digits.specs.Lists.{inTurn}
 use Rattle.deck.specs.Deck.{wordChecks, blockChecks, blocksOf, wordsIn, readChecks, writeChecks}
 use Rattle.deck.proofs.Turns.{numbered-turn}
 

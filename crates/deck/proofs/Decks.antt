@@ -9,11 +9,11 @@ use lib.ListN.{length, drop, length-drop}
 use lib.Seq.{length-take-le}
 use Rattle.digits.specs.Refusal.{first}
 use Rattle.digits.proofs.Refusals.{None, first-none}
-use Rattle.deck.specs.Lists.{joined}
+use Rattle.digits.specs.Lists.{joined}
 use Rattle.deck.specs.Deck.{blocksOf, blockAt, countIn, wordsIn, blockChecks, deckChecks}
 use Rattle.deck.proofs.Turns.{none-at}
 use Rattle.deck.proofs.Checks.{blocks-numbered}
-use Rattle.deck.proofs.Lists.{joined-step}
+use Rattle.digits.proofs.Lists.{joined-step}
 use Rattle.deck.proofs.Groups.{length-blocks, blocks-at}
 use Rattle.deck.proofs.Blocks.{Good, good, some}
 

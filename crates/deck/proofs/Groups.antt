@@ -4,9 +4,9 @@ use mathlib.Core.Path.{_≡_, refl, _∙_}
 use mathlib.Core.List.{List, [], _∷_}
 use native.Mathlib.Omega.{arith}
 use lib.ListN.{length, getD, take, drop, length-append}
-use Rattle.deck.specs.Number.{numberOf, digitsOf}
+use Rattle.digits.specs.Number.{numberOf, digitsOf}
 use Rattle.deck.specs.Deck.{groupsOf, bytesOf, blocksOf, blockAt}
-use Rattle.deck.proofs.Lists.{length-each, each-at}
+use Rattle.digits.proofs.Lists.{length-each, each-at}
 
 pub length-groups : (block : List ℕ) → length (groupsOf block) ≡ 64
 unfolding groupsOf

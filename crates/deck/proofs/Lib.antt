@@ -1,5 +1,3 @@
-pub mod Lists
-pub mod Number
 pub mod Turns
 pub mod Walks
 pub mod Checks

@@ -10,13 +10,13 @@ use Rattle.digits.specs.Refusal.{first, Given}
 use Rattle.digits.proofs.Refusals.{exactly, same-refusal}
 use Rattle.digits.proofs.Sole.{sole}
 use Rattle.digits.specs.Lent.{over}
-use Rattle.deck.specs.Lists.{pieces}
+use Rattle.digits.specs.Lists.{pieces}
 use Rattle.deck.specs.Deck.{countIn, checkOf, blockOf, blocksFor, readChecks, readOf, wordsAfter, wordsOf, blockCount, deckOf, writeChecks, writeOf, deckAfter}
 use Rattle.deck.specs.declared.Reading.{Reading}
 use Rattle.deck.specs.declared.Reading.the-variants as R
 use Rattle.deck.specs.declared.Writing.{Writing}
 use Rattle.deck.specs.declared.Writing.the-variants as W
-use Rattle.deck.proofs.Lists.{length-pieces, pieces-at, placed-at}
+use Rattle.digits.proofs.Lists.{length-pieces, pieces-at, placed-at}
 use Rattle.deck.proofs.Answers.{reading-tells, writing-tells}
 use Rattle.deck.proofs.Written.{length-made, wordsAt}
 use Rattle.deck.proofs.Back.{count-of}

@@ -6,12 +6,12 @@ use native.Mathlib.Nat.{suc-mul}
 use native.Mathlib.Omega.{arith}
 use lib.ListN.{length, take, drop, length-drop, take-append-drop}
 use lib.Seq.{take-at, drop-at, length-take-le}
-use Rattle.deck.specs.Lists.{pieces, joined}
-use Rattle.deck.specs.Number.{digitsOf, numberOf}
+use Rattle.digits.specs.Lists.{pieces, joined}
+use Rattle.digits.specs.Number.{digitsOf, numberOf}
 use Rattle.deck.specs.Deck.{groupsOf, bytesOf}
 use Rattle.digits.specs.Table.{Each}
 use Rattle.digits.proofs.Table.{Below, each-into, each-take, each-drop}
-use Rattle.deck.proofs.Number.{length-digits, number-digits, digits-number, number-lt}
+use Rattle.digits.proofs.Number.{length-digits, number-digits, digits-number, number-lt}
 use Rattle.deck.proofs.Groups.{length-groups, length-bytes}
 
 -- what holds of every piece

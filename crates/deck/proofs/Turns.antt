@@ -10,8 +10,8 @@ use lib.ListN.{length, getD, take, drop}
 use Rattle.digits.specs.Refusal.{Check, first}
 use Rattle.digits.proofs.Refusals.{numbered, None, numbered-append, first-append}
 use Rattle.digits.proofs.Table.{each-append, each-split}
-use Rattle.deck.specs.Lists.{inTurn}
-use Rattle.deck.proofs.Lists.{placed-step}
+use Rattle.digits.specs.Lists.{inTurn}
+use Rattle.digits.proofs.Lists.{placed-step}
 
 module _ {A : Type 0} (f : ℕ → A → List Check) where
   pub numbered-turn : ((i : ℕ) (x : A) → T (numbered (f i x))) → (a : ℕ) (l : List A) → T (numbered (inTurn f a l))

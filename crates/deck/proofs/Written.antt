@@ -8,9 +8,9 @@ use lib.Pow.{pow-pos}
 use lib.ListN.{length, take, drop, replicate, length-append, length-replicate, length-take, take-append-drop}
 use lib.Seq.{take-at, take-all}
 use Rattle.digits.specs.Line.{total}
-use Rattle.deck.specs.Lists.{pieces, joined, placed}
+use Rattle.digits.specs.Lists.{pieces, joined, placed}
 use Rattle.deck.specs.Deck.{bytesOf, checkOf, blockOf, blockCount, blocksFor, deckOf}
-use Rattle.deck.proofs.Lists.{length-pieces, pieces-at, placed-step}
+use Rattle.digits.proofs.Lists.{length-pieces, pieces-at, placed-step}
 use Rattle.deck.proofs.Groups.{length-bytes}
 
 pub drop-zeros : (k n : ℕ) → drop k (replicate {A = ℕ} n 0) ≡ replicate (n - k) 0

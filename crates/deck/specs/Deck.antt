@@ -9,8 +9,9 @@ use Rattle.digits.specs.Refusal.{Check, first, answer}
 use Rattle.word.specs.Layout.{lineOf}
 use Rattle.word.specs.Word.{faultChecks}
 use Rattle.digits.specs.Lent.{over}
-use Rattle.deck.specs.Lists.{pieces, joined, placed, inTurn, allZero}
-use Rattle.deck.specs.Number.{digitsOf, numberOf}
+use Rattle.digits.specs.Sizes.{roomWrong}
+use Rattle.digits.specs.Lists.{pieces, joined, placed, inTurn, allZero}
+use Rattle.digits.specs.Number.{digitsOf, numberOf}
 use Rattle.deck.specs.declared.Reading.{Reading}
 use Rattle.deck.specs.declared.Reading.the-variants as R
 use Rattle.deck.specs.declared.Writing.{Writing}
@@ -112,10 +113,6 @@ wordsOf deck = joined (map wordsIn (blocksOf deck))
 -- "block by block 16, 17, 18 and words 3 to 9"
 abbrev pub deckChecks : List ℕ → List Check
 deckChecks deck = inTurn (blockChecks (length deck / 512)) 0 (blocksOf deck)
-
--- 19: room lent is too small
-abbrev pub roomWrong : ℕ → ℕ → Bool
-roomWrong size room = ltb room size
 
 -- "The reader checks 15, then block by block 16, 17, 18 and words 3 to 9, then 19;"
 abbrev pub readChecks : List ℕ → ℕ → List Check

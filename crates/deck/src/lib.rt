@@ -5,8 +5,8 @@ ghost use lib.ListN.{length, take, drop};
 ghost use mathlib.Core.List.{_++_};
 ghost use Rattle.digits.specs.Refusal.{first};
 ghost use Rattle.digits.specs.Lent.{over};
-ghost use Rattle.deck.specs.Lists.{inTurn};
-ghost use Rattle.deck.specs.Number.{digitsOf, numberOf};
+ghost use Rattle.digits.specs.Lists.{inTurn};
+ghost use Rattle.digits.specs.Number.{digitsOf, numberOf};
 ghost use Rattle.deck.specs.Deck.{groupsOf, bytesOf, blockAt, numberIn, countIn, wordsIn, checkOf, countWrong, unusedWrong, lengthWrong, shapeWrong, wordChecks, blockChecks, deckChecks, wordsOf, readOf, wordsAfter, blockOf, blockCount, deckOf, writeOf, deckAfter};
 use digits::first_of;
 
@@ -206,18 +206,6 @@ fn count_words(deck: &[u8]) -> usize
     total
 }
 
-// Copies all of `from` to the front of `to`.
-fn copy(from: &[u64], to: &mut [u64])
-    requires { ⌜ length (now from) ≤ length (now to) ⌝ }
-    ensures { λ _. ⌜ now (to .exit) ≡ over (now (from .entry)) (now (to .entry)) ⌝ }
-{
-    let mut i = 0;
-    while i < from.len() {
-        to[i] = from[i];
-        i += 1;
-    }
-}
-
 // Puts the words of a block at `at`, and gives the place after them.
 fn put_words(gs: [u64; 64], words: &mut [u64], at: usize) -> usize
     requires { ⌜ (countIn gs ≤ 62) × (at + countIn gs ≤ length (now words)) ⌝ }
@@ -226,7 +214,7 @@ fn put_words(gs: [u64; 64], words: &mut [u64], at: usize) -> usize
     let count = count_in(gs);
     let end = 1 + count;
     let next = at + count;
-    copy(&gs[1..end], &mut words[at..next]);
+    digits::copy_words(&gs[1..end], &mut words[at..next]);
     next
 }
 
@@ -278,7 +266,7 @@ fn block_of(words: &[u64], b: usize) -> [u64; 64]
 {
     let mut gs = [0u64; 64];
     gs[0] = b as u64 * 0x1_0000_0000_0000 + words.len() as u64 * 0x1_0000_0000;
-    copy(words, &mut gs[1..63]);
+    digits::copy_words(words, &mut gs[1..63]);
     gs[63] = block_check(gs);
     gs
 }

@@ -7,3 +7,6 @@ pub mod Sizes
 pub mod Copies
 pub mod Sole
 pub mod Promises
+pub mod Number
+pub mod Lists
+pub mod Puts

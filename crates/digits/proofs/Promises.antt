@@ -11,7 +11,9 @@ use Rattle.digits.proofs.both_decimal.Reads as both-decimal
 use Rattle.digits.proofs.first_of.Reads as first-of
 use Rattle.digits.proofs.storage_wrong.Reads as storage-wrong
 use Rattle.digits.proofs.sizes_wrong.Reads as sizes-wrong
+use Rattle.digits.proofs.byte_at.Reads as byte-at
 use Rattle.digits.proofs.copy.Reads as copy
+use Rattle.digits.proofs.copy_words.Reads as copy-words
 
 pub one-sole : (κs : _) (args : _) (r q : ℕ) (x y : _) → one.Post κs args r x → one.Post κs args q y → r ≡ q
 one-sole κs args r q x y a b = sole (a .0) (b .0)
@@ -34,6 +36,12 @@ storage-wrong-sole κs args r q x y a b = sole a b
 pub sizes-wrong-sole : (κs : _) (args : _) (r q : Bool) (x y : _) → sizes-wrong.Post κs args r x → sizes-wrong.Post κs args q y → r ≡ q
 sizes-wrong-sole κs args r q x y a b = sole a b
 
+pub byte-at-sole : (κs : _) (args : _) (r q : ℕ) (x y : _) → byte-at.Post κs args r x → byte-at.Post κs args q y → r ≡ q
+byte-at-sole κs args r q x y a b = sole a b
+
 -- of what is lent
 pub copy-sole : (κs : _) (args : _) (r q : _) (x y : _) → copy.Post κs args r x → copy.Post κs args q y → now (x .1 .0) ≡ now (y .1 .0)
 copy-sole κs args r q x y a b = sole a b
+
+pub copy-words-sole : (κs : _) (args : _) (r q : _) (x y : _) → copy-words.Post κs args r x → copy-words.Post κs args q y → now (x .1 .0) ≡ now (y .1 .0)
+copy-words-sole κs args r q x y a b = sole a b

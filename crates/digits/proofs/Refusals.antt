@@ -6,13 +6,17 @@ use mathlib.Core.Bool.{Bool, true, false, not, cond, _&&_}
 use mathlib.Core.Logic.{_↔_}
 use native.Mathlib.Nat.{not-suc-le-zero, le-of-suc-le-suc, zero-lt-suc}
 use native.Mathlib.Omega.{arith}
-use borrow.Author.Tests.{ne-eqb}
+use borrow.Author.Tests.{eq-eqb, ne-eqb}
 use lib.Dec.{T, eqb, ltb, ltb→lt}
 use lib.ListN.{length}
 use mir.Facts.{and-yes}
 use Rattle.digits.specs.Table.{Each}
 use Rattle.digits.specs.Refusal.{Check, first, answer, numberAt, testAt, Given}
 use Rattle.digits.proofs.Truth.{zero-one, true-not-false}
+
+T-not : (b : Bool) → T (not b) → b ≡ true → ⊥
+T-not true t e = t
+T-not false t e = true-not-false e refl
 
 -- the answer where a number is given, and where none is
 module _ {A : Type 0} (refused : ℕ → A) (x : A) where
@@ -148,3 +152,14 @@ pub first-lt : (k : ℕ) (cs : List Check) → 0 < k → T (within k cs) → fir
 first-lt k [] h t = h
 first-lt k ((n, true) ∷ cs) h t = ltb→lt n k (and-yes (ltb n k) (within k cs) t .0)
 first-lt k ((n, false) ∷ cs) h t = first-lt k cs h (and-yes (ltb n k) (within k cs) t .1)
+
+-- ---- a number that is not in the list is not given: at a list with its numbers written out this computes
+
+abbrev pub absent : ℕ → List Check → Bool
+absent n [] = true
+absent n ((m, b) ∷ cs) = not (eqb m n) && absent n cs
+
+pub never : (n : ℕ) (cs : List Check) → T (absent n cs) → (n ≡ 0 → ⊥) → first cs ≡ n → ⊥
+never n [] t some e = some (sym e)
+never n ((m, true) ∷ cs) t some e = T-not (eqb m n) (and-yes (not (eqb m n)) (absent n cs) t .0) (eq-eqb m n e)
+never n ((m, false) ∷ cs) t some e = never n cs (and-yes (not (eqb m n)) (absent n cs) t .1) some e

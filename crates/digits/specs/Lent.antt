@@ -7,6 +7,10 @@ use lib.ListN.{length, take, drop}
 abbrev pub over : {A : Type 0} → List A → List A → List A
 over new old = new ++ drop (length new) old
 
--- the same, as far as there is room
+-- with the new from a place on
+abbrev pub overAt : {A : Type 0} → ℕ → List A → List A → List A
+overAt at new old = take at old ++ over new (drop at old)
+
+-- at the front, as far as there is room
 abbrev pub copied : List ℕ → List ℕ → List ℕ
 copied from to = over (take (length to) from) to

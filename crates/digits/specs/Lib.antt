@@ -5,3 +5,5 @@ pub mod Table
 pub mod Refusal
 pub mod Sizes
 pub mod Lent
+pub mod Number
+pub mod Lists

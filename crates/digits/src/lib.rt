@@ -2,6 +2,7 @@
 ghost use mathlib.Core.Path.{_≡_};
 ghost use mathlib.Core.Bool.{cond};
 ghost use Prim.Native.Nat.{_-_, _^_, _<_};
+ghost use lib.ListN.{getD};
 ghost use Rattle.digits.specs.Bits.{one, bit, withBit};
 ghost use Rattle.digits.specs.Digits.{bothDecimal};
 ghost use Rattle.digits.specs.Sizes.{storageWrong, sizesWrong};
@@ -77,6 +78,13 @@ pub fn sizes_wrong(store: usize, main: usize, local: usize) -> bool
     (store == 0) | ((4096 < store) | storage_wrong(main, local))
 }
 
+// The byte at a place, or 0 past the end.
+pub fn byte_at(bytes: &[u8], place: usize) -> u8
+    ensures { λ r. ⌜ r ≡ getD (now (bytes .entry)) place 0 ⌝ }
+{
+    if place < bytes.len() { bytes[place] } else { 0 }
+}
+
 // Puts `from` at the front of `to`, as far as there is room.
 pub fn copy(from: &[u8], to: &mut [u8])
     ensures { λ _. ⌜ now (to .exit) ≡ copied (now (from .entry)) (now (to .entry)) ⌝ }
@@ -85,5 +93,16 @@ pub fn copy(from: &[u8], to: &mut [u8])
     while (i < from.len()) & (i < to.len()) {
         to[i] = from[i];
         i += 1;
+    }
+}
+
+// The same, of words.
+pub fn copy_words(from: &[u64], to: &mut [u64])
+    ensures { λ _. ⌜ now (to .exit) ≡ copied (now (from .entry)) (now (to .entry)) ⌝ }
+{
+    let mut k = 0;
+    while (k < from.len()) & (k < to.len()) {
+        to[k] = from[k];
+        k += 1;
     }
 }

@@ -4,7 +4,7 @@ ghost use Rattle.lister.specs.Input.{Inside};
 use libc::STDERR_FILENO;
 use libc::STDIN_FILENO;
 use libc::STDOUT_FILENO;
-use listing::Listed;
+use text::Written;
 
 enum Input {
     Bytes(usize),
@@ -42,7 +42,7 @@ fn main() {
     };
     let mut text = [0u8; 77824];
     let listed = listing::print(&deck[0..length], &mut text);
-    let Listed::Text(size) = listed else {
+    let Written::Text(size) = listed else {
         return;
     };
     if !io::write_all(STDOUT_FILENO, &text[0..size]) {

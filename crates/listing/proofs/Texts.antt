@@ -1,22 +1,19 @@
--- Lines, and a text in the room lent. Assumes nothing.
+-- Lines, and what is printed of a deck. Assumes nothing.
 use Prim.Native.Nat.{ℕ, suc, _+_, _-_, _*_, _<_, _≤_}
 use mathlib.Core.Path.{_≡_, refl, sym, _∙_}
 use mathlib.Core.List.{List, [], _∷_, _++_}
 use mathlib.Core.Bool.{Bool, true, false, cond}
 use native.Mathlib.Nat.{zero-add}
 use native.Mathlib.Omega.{arith}
-use borrow.Author.Tests.{lt-ltb, le-ltb}
 use lib.ListN.{length, getD, take, drop, length-append}
 use Rattle.digits.specs.Refusal.{first}
 use Rattle.digits.proofs.Refusals.{same-refusal}
-use Rattle.digits.specs.Lent.{over}
-use Rattle.deck.specs.Lists.{inTurn}
+use Rattle.digits.specs.Lists.{inTurn}
 use Rattle.deck.specs.Deck.{readChecks, readOf, wordsAfter, wordsOf}
 use Rattle.deck.specs.declared.Reading.the-variants as R
-use Rattle.deck.proofs.Lists.{placed-step}
+use Rattle.digits.proofs.Lists.{placed-step}
 use Rattle.deck.proofs.Answers.{reading-tells, was-read, taken}
-use Rattle.listing.specs.Listing.{textLine, linesOf, refusalOf, textOf, putOf, roomAfter}
-use Rattle.listing.specs.declared.Listed.the-variants as L
+use Rattle.listing.specs.Listing.{textLine, linesOf, refusalOf, textOf}
 
 -- ---- lines
 
@@ -38,17 +35,6 @@ restOf ws i = inTurn textLine (0 + i) (drop i ws)
 
 pub rest-step : (ws : List ℕ) (i : ℕ) → i < length ws → restOf ws i ≡ textLine i (getD ws i 0) ++ restOf ws (i + 1)
 rest-step ws i h = rw (placed-step textLine ws 0 0 i h, zero-add i)
-
--- ---- a text in a room that is too small, and in one that is not
-
-module _ (text old : List ℕ) where
-  pub too-small : length old < length text → (L.Refused 19 ≡ putOf text (length old)) × (old ≡ roomAfter text old)
-  unfolding putOf roomAfter
-  too-small h = rw (lt-ltb (length old) (length text) h) (refl, refl)
-
-  pub fits : length text ≤ length old → (L.Text (length text) ≡ putOf text (length old)) × (over text old ≡ roomAfter text old)
-  unfolding putOf roomAfter
-  fits h = rw (le-ltb (length old) (length text) h) (refl, refl)
 
 -- ---- three digits and a line feed, from the first digit that is printed
 

@@ -1,36 +1,13 @@
 // The lister's text: a line for each word of a deck, or a refusal.
 ghost use mathlib.Core.Path.{_≡_};
-ghost use mathlib.Core.List.{_++_};
-ghost use Prim.Native.Nat.{_+_, _*_, _<_, _≤_};
+ghost use Prim.Native.Nat.{_*_, _≤_};
 ghost use lib.ListN.{length};
 ghost use Rattle.digits.specs.Lent.{over};
-ghost use Rattle.listing.specs.Listing.{capital, hexadecimal, textLine, linesOf, zerosInFront, refusalOf, textOf, putOf, roomAfter};
+ghost use Rattle.listing.specs.Listing.{textLine, linesOf, refusalOf, textOf};
+ghost use Rattle.text.specs.Text.{putOf, roomAfter};
 use deck::Reading;
-
-pub enum Listed {
-    Text(usize),
-    Refused(u8),
-}
-
-fn capital(digit: u8) -> u8
-    requires { ⌜ digit < 16 ⌝ }
-    ensures { λ r. ⌜ r ≡ capital digit ⌝ }
-{
-    if digit < 10 { 48 + digit } else { 55 + digit }
-}
-
-// Puts the lowest hexadecimal digits of a number: as many as there is room for.
-fn put_hexadecimal(number: u64, out: &mut [u8])
-    ensures { λ _. ⌜ now (out .exit) ≡ hexadecimal (length (now (out .entry))) number ⌝ }
-{
-    let mut rest = number;
-    let mut i = out.len();
-    while 0 < i {
-        i -= 1;
-        out[i] = capital((rest % 16) as u8);
-        rest = rest / 16;
-    }
-}
+use text::Written;
+use text::put_hexadecimal;
 
 // The line of a word at its address.
 fn line(address: u64, word: u64) -> [u8; 19]
@@ -57,65 +34,34 @@ fn put_lines(words: &[u64], text: &mut [u8])
 }
 
 // A line for each word, the first at address 0, or 19.
-pub fn list(words: &[u64], text: &mut [u8]) -> Listed
-    ensures { λ r. ⌜ (r ≡ putOf (linesOf (now (words .entry))) (length (now (text .entry)))) × (now (text .exit) ≡ roomAfter (linesOf (now (words .entry))) (now (text .entry))) ⌝ }
+pub fn list(words: &[u64], room: &mut [u8]) -> Written
+    ensures { λ r. ⌜ (r ≡ putOf (linesOf (now (words .entry))) (length (now (room .entry)))) × (now (room .exit) ≡ roomAfter (linesOf (now (words .entry))) (now (room .entry))) ⌝ }
 {
-    if text.len() / 19 < words.len() {
-        return Listed::Refused(19);
+    if room.len() / 19 < words.len() {
+        return Written::Refused(19);
     }
-    put_lines(words, text);
-    Listed::Text(19 * words.len())
-}
-
-fn zeros_in_front(number: u8) -> usize
-    ensures { λ r. ⌜ (r ≡ zerosInFront number) × (r ≤ 2) ⌝ }
-{
-    if number < 10 {
-        2
-    } else if number < 100 {
-        1
-    } else {
-        0
-    }
-}
-
-// Puts two texts one after the other, or gives 19.
-fn put_both(first: &[u8], second: &[u8], text: &mut [u8]) -> Listed
-    requires { ⌜ length (now first) + length (now second) ≤ 12 ⌝ }
-    ensures { λ r. ⌜ (r ≡ putOf (now (first .entry) ++ now (second .entry)) (length (now (text .entry)))) × (now (text .exit) ≡ roomAfter (now (first .entry) ++ now (second .entry)) (now (text .entry))) ⌝ }
-{
-    let at = first.len();
-    let end = at + second.len();
-    if text.len() < end {
-        return Listed::Refused(19);
-    }
-    digits::copy(first, text);
-    digits::copy(second, &mut text[at..end]);
-    Listed::Text(end)
+    put_lines(words, room);
+    Written::Text(19 * words.len())
 }
 
 // `REFUSED `, the number in decimal and a line feed, or 19.
-pub fn refusal(number: u8, text: &mut [u8]) -> Listed
-    ensures { λ r. ⌜ (r ≡ putOf (refusalOf number) (length (now (text .entry)))) × (now (text .exit) ≡ roomAfter (refusalOf number) (now (text .entry))) ⌝ }
+pub fn refusal(number: u8, room: &mut [u8]) -> Written
+    ensures { λ r. ⌜ (r ≡ putOf (refusalOf number) (length (now (room .entry)))) × (now (room .exit) ≡ roomAfter (refusalOf number) (now (room .entry))) ⌝ }
 {
-    let tail = [
-        48 + number / 100,
-        48 + number / 10 % 10,
-        48 + number % 10,
-        b'\n',
-    ];
-    let from = zeros_in_front(number);
-    put_both(b"REFUSED ", &tail[from..4], text)
+    let digits = text::three_digits(number);
+    let tail = [digits[0], digits[1], digits[2], b'\n'];
+    let from = text::zeros_in_front(number);
+    text::put_both(b"REFUSED ", &tail[from..4], room)
 }
 
 // What is printed of a deck, or 19.
-pub fn print(deck: &[u8], text: &mut [u8]) -> Listed
-    ensures { λ r. ⌜ (r ≡ putOf (textOf (now (deck .entry))) (length (now (text .entry)))) × (now (text .exit) ≡ roomAfter (textOf (now (deck .entry))) (now (text .entry))) ⌝ }
+pub fn print(deck: &[u8], room: &mut [u8]) -> Written
+    ensures { λ r. ⌜ (r ≡ putOf (textOf (now (deck .entry))) (length (now (room .entry)))) × (now (room .exit) ≡ roomAfter (textOf (now (deck .entry))) (now (room .entry))) ⌝ }
 {
     let mut words = [0u64; 4096];
     let read = deck::read(deck, &mut words);
     match read {
-        Reading::Words(count) => list(&words[0..count], text),
-        Reading::Refused(number) => refusal(number, text),
+        Reading::Words(count) => list(&words[0..count], room),
+        Reading::Refused(number) => refusal(number, room),
     }
 }

@@ -1,24 +1,48 @@
 -- What a cycle's answers mean, and that no second answer fits. Assumes nothing.
 use Prim.Native.Nat.{ℕ, zero, suc}
-use mathlib.Core.Path.{_≡_, refl, sym, _∙_}
-use mathlib.Core.List.{List}
-use mathlib.Core.Bool.{Bool, true, false}
+use mathlib.Core.Path.{_≡_, refl, sym, ap, _∙_}
+use mathlib.Core.List.{List, _∷_, _++_}
+use mathlib.Core.Bool.{Bool, true, false, cond, not, _&&_}
+use native.Mathlib.Omega.{arith}
 use mathlib.Core.Logic.{_↔_}
 use denote.Ref.{now}
-use Rattle.digits.specs.Refusal.{first, Given}
-use Rattle.digits.proofs.Refusals.{given-first, first-given}
+use borrow.Author.Tests.{le-ltb}
+use lib.Dec.{leb}
+use lib.ListN.{length, set, length-set}
+use Rattle.digits.specs.Refusal.{Check, first, Given}
+use Rattle.digits.proofs.Refusals.{None, none-first, first-none, given-first, first-given, accepts, never}
 use Rattle.digits.proofs.Sole.{sole}
+use Rattle.digits.proofs.Table.{each-split}
 use Rattle.digits.proofs.Truth.{zero-one}
-use Rattle.word.specs.Layout.{fieldsOf}
+use Rattle.digits.specs.Sizes.{sizesWrong}
+use Rattle.word.specs.Layout.{lineOf, fieldsOf}
+use Rattle.word.specs.Word.{faultChecks, apartChecks, takenApart}
+use Rattle.word.specs.declared.Apart.the-variants as A
 use Rattle.word.specs.declared.Fields.{Fields}
-use Rattle.machine.specs.Cycle.{Outcome, outcome, stops, cycleChecks, wordAt, ranOf, decided, cycleOf, refusalNumber}
+use Rattle.machine.specs.Cycle.{Outcome, outcome, stops, stepChecks, cycleChecks, wordAt, ranOf, decided, cycleOf, refusalNumber, nextSumOf}
+use Rattle.machine.specs.Sources.{entered, workIn}
+use Rattle.machine.specs.Storage.{mainAddress, accessOf}
 use Rattle.machine.specs.declared.State.{State}
+use Rattle.machine.specs.declared.Access.{Access}
 use Rattle.machine.specs.declared.Cycled.{Cycled}
-use Rattle.machine.specs.declared.Cycled.the-variants.{Stopped, Refused}
+use Rattle.machine.specs.declared.Cycled.the-variants.{Ran, Stopped, Refused}
 use Rattle.machine.specs.declared.NextSum.{NextSum}
+use Rattle.machine.specs.declared.NextSum.the-variants.{Sums}
+use Rattle.machine.proofs.Cycles.{address-fits}
 use Rattle.machine.proofs.cycle.Reads as cycle
 use Rattle.machine.proofs.cycle_by_table.Reads as cycle-by-table
 use Rattle.machine.proofs.next_sum.Reads as next-sum
+
+-- what runs is answered so, and no other way
+ran-ran : (f : Fields) (main local : List ℕ) (s : State) → (t : State) × (ranOf f main local s .answer ≡ Ran t)
+unfolding ranOf
+ran-ran f main local s = (_, refl)
+
+ran-not-stopped : (f : Fields) (main local : List ℕ) (s t : State) → ranOf f main local s .answer ≡ Stopped t → ⊥
+ran-not-stopped f main local s t e = let (x, r) = ran-ran f main local s in zero-one cc
+
+ran-not-refused : (f : Fields) (main local : List ℕ) (s t : State) (n g : ℕ) → ranOf f main local s .answer ≡ Refused t n g → ⊥
+ran-not-refused f main local s t n g e = let (x, r) = ran-ran f main local s in zero-one cc
 
 -- ---- exactly when each of 1, 2, 3 to 11 is given
 
@@ -38,6 +62,55 @@ cycle-exactly store main local s n =
     let is = decided-number (first (cycleChecks store main local s)) (stops f) f main local s in
     (λ e. first-given (cycleChecks store main local s) n (sym is ∙ e), λ g. is ∙ given-first (cycleChecks store main local s) (suc n) g)
 
+-- ---- exactly when a cycle stops, and when it runs: no number is given, and the word stops or does not
+
+module _ (f : Fields) (main local : List ℕ) (s t : State) where
+  decided-stopped : (n : ℕ) (stop : Bool) → decided n stop f main local s .answer ≡ Stopped t → (n ≡ 0) × (stop ≡ true)
+  decided-stopped (suc n) stop e = absurd (zero-one cc)
+  decided-stopped zero true e = (refl, refl)
+  decided-stopped zero false e = absurd (ran-not-stopped f main local s t e)
+
+  decided-ran : (n : ℕ) (stop : Bool) → decided n stop f main local s .answer ≡ Ran t → (n ≡ 0) × (stop ≡ false)
+  decided-ran (suc n) stop e = absurd (zero-one cc)
+  decided-ran zero true e = absurd (zero-one cc)
+  decided-ran zero false e = (refl, refl)
+
+module _ (store main local : List ℕ) (s : State) where
+  pub stopped-exactly : (cycleOf store main local s .answer ≡ Stopped s) ↔ (None (cycleChecks store main local s) × (stops (fieldsOf (wordAt store s)) ≡ true))
+  unfolding cycleOf
+  stopped-exactly =
+      let f : Fields = fieldsOf (wordAt store s) in
+      let cs : List Check = cycleChecks store main local s in (
+        λ e. let (none, stop) = decided-stopped f main local s s (first cs) (stops f) e in (first-none cs tt none, stop),
+        λ h. λ i. decided (none-first cs (h .0) i) (h .1 i) f main local s .answer,
+      )
+
+  pub ran-exactly : ((t : State) × (cycleOf store main local s .answer ≡ Ran t)) ↔ (None (cycleChecks store main local s) × (stops (fieldsOf (wordAt store s)) ≡ false))
+  unfolding cycleOf
+  ran-exactly =
+      let f : Fields = fieldsOf (wordAt store s) in
+      let cs : List Check = cycleChecks store main local s in (
+        λ w. let (none, on) = decided-ran f main local s (w .0) (first cs) (stops f) (w .1) in (first-none cs tt none, on),
+        λ h. let (t, r) = ran-ran f main local s in (t, (λ i. decided (none-first cs (h .0) i) (h .1 i) f main local s .answer) ∙ r),
+      )
+
+-- ---- what is shown of the word that would run next is the work of its cycle
+
+module _ (store main local : List ℕ) (s : State) where
+  apart-is : None (cycleChecks store main local s) → takenApart (wordAt store s) (s .wx) ≡ A.Fields (fieldsOf (wordAt store s))
+  unfolding takenApart
+  apart-is none =
+      let faults : List Check = faultChecks (wordAt store s) (s .wx) (lineOf (wordAt store s)) in
+      let (good, rest) = each-split (λ (c : Check). c .1 ≡ false) faults (stepChecks (fieldsOf (wordAt store s)) (length main) s) (none .1 .1) in
+      accepts A.Refused (A.Fields (fieldsOf (wordAt store s))) (first (apartChecks (wordAt store s) (s .wx) (lineOf (wordAt store s))))
+      (rw (le-ltb 4095 (s .wx) (address-fits (length store) (length main) (length local) (s .wx) (none .0) (none .1 .0))) (none-first faults good))
+
+  pub ran-shown : (t : State) → cycleOf store main local s .answer ≡ Ran t → nextSumOf store s ≡ Sums (workIn (fieldsOf (wordAt store s)) (entered (fieldsOf (wordAt store s)) s))
+  unfolding nextSumOf
+  ran-shown t e =
+      let (none, on) = ran-exactly store main local s .0 (t, e) in
+      rw (none .1 .0, apart-is none, on)
+
 -- ---- what a refusal and a stop leave: everything
 
 -- the state and both storages are as they were
@@ -45,14 +118,6 @@ pub record Kept (main local : List ℕ) (s t : State) (o : Outcome Cycled) : Typ
   pub state : t ≡ s
   pub in-main : o .main ≡ main
   pub in-local : o .local ≡ local
-
-ran-not-stopped : (f : Fields) (main local : List ℕ) (s t : State) → ranOf f main local s .answer ≡ Stopped t → ⊥
-unfolding ranOf
-ran-not-stopped f main local s t e = zero-one cc
-
-ran-not-refused : (f : Fields) (main local : List ℕ) (s t : State) (n g : ℕ) → ranOf f main local s .answer ≡ Refused t n g → ⊥
-unfolding ranOf
-ran-not-refused f main local s t n g e = zero-one cc
 
 module _ (f : Fields) (main local : List ℕ) (s t : State) where
   refused-keeps : (k : ℕ) (stop : Bool) (n g : ℕ) → decided k stop f main local s .answer ≡ Refused t n g → Kept main local s t (decided k stop f main local s)
@@ -77,6 +142,46 @@ module _ (store main local : List ℕ) (s t : State) where
   stop-keeps e =
       let f : Fields = fieldsOf (wordAt store s) in
       stopped-keeps f main local s t (first (cycleChecks store main local s)) (stops f) e
+
+-- ---- the storages keep their sizes, whatever the answer
+
+pub record SameSizes (main local : List ℕ) (o : Outcome Cycled) : Type 0 where
+  pub of-main : length (o .main) ≡ length main
+  pub of-local : length (o .local) ≡ length local
+
+put-size : (l : List ℕ) (at r : ℕ) (puts : Bool) → length (cond puts (set l at r) l) ≡ length l
+put-size l at r true = length-set l at r
+put-size l at r false = refl
+
+ran-sizes : (f : Fields) (main local : List ℕ) (s : State) → SameSizes main local (ranOf f main local s)
+unfolding ranOf
+ran-sizes f main local s =
+    let e : State = entered f s in
+    let a : Access = accessOf f e in
+    record { of-main = put-size main (mainAddress a) (e .r) (a .puts && not (a .local)); of-local = put-size local (a .n) (e .r) (a .puts && a .local) }
+
+decided-sizes : (n : ℕ) (stop : Bool) (f : Fields) (main local : List ℕ) (s : State) → SameSizes main local (decided n stop f main local s)
+decided-sizes (suc n) stop f main local s = record { of-main = refl; of-local = refl }
+decided-sizes zero true f main local s = record { of-main = refl; of-local = refl }
+decided-sizes zero false f main local s = ran-sizes f main local s
+
+pub sizes-stay : (store main local : List ℕ) (s : State) → SameSizes main local (cycleOf store main local s)
+unfolding cycleOf
+sizes-stay store main local s = decided-sizes (first (cycleChecks store main local s)) (stops (fieldsOf (wordAt store s))) (fieldsOf (wordAt store s)) main local s
+
+-- a store and storages of right sizes: 1 is not given; and 22 is given by no cycle
+pub never-1 : (store main local : List ℕ) (s : State) → sizesWrong (length store) (length main) (length local) ≡ false → refusalNumber (cycleOf store main local s .answer) ≡ 1 → ⊥
+unfolding cycleOf
+never-1 store main local s right e =
+    let f : Fields = fieldsOf (wordAt store s) in
+    let later : List Check = (2, leb (length store) (s .wx)) ∷ (faultChecks (wordAt store s) (s .wx) (lineOf (wordAt store s)) ++ stepChecks f (length main) s) in
+    never 1 later tt (λ z. omega arith) (ap (λ (b : Bool). cond b 1 (first later)) (sym right) ∙ sym (decided-number (first (cycleChecks store main local s)) (stops f) f main local s) ∙ e)
+
+pub never-22 : (store main local : List ℕ) (s : State) → refusalNumber (cycleOf store main local s .answer) ≡ 22 → ⊥
+unfolding cycleOf
+never-22 store main local s e =
+    let f : Fields = fieldsOf (wordAt store s) in
+    never 22 (cycleChecks store main local s) tt (λ z. omega arith) (sym (decided-number (first (cycleChecks store main local s)) (stops f) f main local s) ∙ e)
 
 -- ---- no second answer fits, nor a second storage; and the table answers as the rule does
 

@@ -12,7 +12,7 @@ use Rattle.word.specs.declared.Apart.{Apart}
 use Rattle.word.specs.declared.Apart.the-variants as A
 use Rattle.word.specs.declared.Fields.{Fields}
 use Rattle.adder.specs.declared.Sum.{Sum}
-use Rattle.machine.specs.Sources.{entered, sumIn}
+use Rattle.machine.specs.Sources.{entered, sumIn, workIn}
 use Rattle.machine.specs.Branch.{nextOf}
 use Rattle.machine.specs.Storage.{accessOf, outside, fetchedOf, mainAfter, localAfter}
 use Rattle.machine.specs.Status.{into, statusOf}
@@ -120,9 +120,9 @@ refusalNumber (Ran t) = 0
 refusalNumber (Stopped t) = 0
 refusalNumber (Refused t number field) = number
 
--- what the adder answers for a word that does not stop
+-- what the adder does in a word that does not stop: the byte that is arriving is in R
 abbrev pub sumBy : Fields → State → NextSum
-sumBy f s = cond (stops f) Nothing (Sums (sumIn f (entered f s)))
+sumBy f s = cond (stops f) Nothing (Sums (workIn f (entered f s)))
 
 -- and for the word that would run next, where it stands in the store and is not refused by 3 to 9
 abbrev pub nextBy : Apart → State → NextSum

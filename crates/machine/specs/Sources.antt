@@ -8,9 +8,10 @@ use Rattle.digits.specs.Bits.{bit}
 use Rattle.digits.specs.Digits.{digits}
 use Rattle.word.specs.Parity.{caToW}
 use Rattle.word.specs.declared.Fields.{Fields}
-use Rattle.adder.specs.Adder.{sumOf}
+use Rattle.adder.specs.Adder.{sumOf, workOf}
 use Rattle.adder.specs.declared.Controls.{Controls}
 use Rattle.adder.specs.declared.Sum.{Sum}
+use Rattle.adder.specs.declared.Work.{Work}
 use Rattle.machine.specs.declared.State.{State}
 
 -- "a. An arriving byte enters R, unless CM is Store; then it is dropped. Either way nothing is arriving any more."
@@ -83,3 +84,7 @@ controlsOf f s = record { cf = f .cf; cg = f .cg; cv = f .cv; cc = f .cc; s0 = b
 -- "c. Arithmetic", of the state that has the arriving byte in R
 unfoldable pub sumIn : Fields → State → Sum
 sumIn f s = sumOf (aSource f s) (bSource f s) (controlsOf f s)
+
+-- what the adder does on the way to that sum
+unfoldable pub workIn : Fields → State → Work
+workIn f s = workOf (aSource f s) (bSource f s) (controlsOf f s)

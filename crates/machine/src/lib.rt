@@ -11,6 +11,7 @@ ghost use Prim.Native.Nat.{_<_};
 ghost use lib.ListN.{length};
 ghost use Rattle.machine.specs.Cycle.{outcome, after, stepOf, cycleOf, sumBy, nextSumOf};
 use adder::Sum;
+use adder::Work;
 use word::Apart;
 use word::Fields;
 
@@ -56,9 +57,9 @@ pub enum Cycled {
     Refused(State, u8, u8),
 }
 
-// What the adder answers for a word, or nothing where no word would run.
+// What the adder does in a word, or nothing where no sum would be made.
 pub enum NextSum {
-    Sums(Sum),
+    Sums(Work),
     Nothing,
 }
 
@@ -105,11 +106,11 @@ fn step(by_table: bool, f: Fields, main: &mut [u8], local: &mut [u8], s: State) 
         return Cycled::Refused(s, 10, field);
     }
     let entered = sources::enter(f, s);
+    let z = sources::sum_in(by_table, f, entered);
     let access = storage::access_of(f, entered);
     if storage::is_outside(main.len(), access) {
         return Cycled::Refused(s, 11, 0);
     }
-    let z = sources::sum_in(by_table, f, entered);
     let fetched = storage::fetched(main, local, access);
     storage::put(main, local, access, entered.r);
     Cycled::Ran(after(f, z, access, fetched, entered))
@@ -151,7 +152,7 @@ pub fn cycle_by_table(store: &[u64], main: &mut [u8], local: &mut [u8], state: S
     cycle_with(true, store, main, local, state)
 }
 
-// The sum, before and after correction, of the word that would run next.
+// The work of the word that would run next: what is chosen, gated and summed, step by step.
 pub fn next_sum(store: &[u64], state: State) -> NextSum
     ensures { λ r. ⌜ r ≡ nextSumOf (now (store .entry)) state ⌝ }
 {
@@ -165,7 +166,7 @@ pub fn next_sum(store: &[u64], state: State) -> NextSum
     }
 }
 
-// The sum of a word that has its fields and does not stop.
+// The work of a word that has its fields and does not stop.
 fn sum_of(f: Fields, s: State) -> NextSum
     requires { ⌜ f .ck < 16 ⌝ }
     ensures { λ r. ⌜ r ≡ sumBy f s ⌝ }
@@ -173,5 +174,6 @@ fn sum_of(f: Fields, s: State) -> NextSum
     if f.cf == 4 {
         return NextSum::Nothing;
     }
-    NextSum::Sums(sources::sum_in(false, f, sources::enter(f, s)))
+    let entered = sources::enter(f, s);
+    NextSum::Sums(sources::work_in(f, entered))
 }

@@ -1,10 +1,11 @@
 // What a word finds: the arriving byte in R, and the adder's two sources.
 ghost use mathlib.Core.Path.{_≡_};
 ghost use Prim.Native.Nat.{_<_};
-ghost use Rattle.machine.specs.Sources.{entered, aSource, bSource, sumIn};
+ghost use Rattle.machine.specs.Sources.{entered, aSource, bSource, controlsOf, sumIn, workIn};
 use crate::State;
 use adder::Controls;
 use adder::Sum;
+use adder::Work;
 use digits::bit;
 use word::Fields;
 
@@ -70,6 +71,20 @@ fn b_source(f: Fields, s: State) -> u8
     }
 }
 
+// What CF, CG, CV and CC ask, and the bits of S that they may read.
+fn controls(f: Fields, s: State) -> Controls
+    ensures { λ r. ⌜ r ≡ controlsOf f s ⌝ }
+{
+    Controls {
+        cf: f.cf,
+        cg: f.cg,
+        cv: f.cv,
+        cc: f.cc,
+        s0: bit(s.s, 0),
+        s3: bit(s.s, 3),
+    }
+}
+
 // c. The adder's whole answer, by the rule or by the table.
 pub(crate) fn sum_in(by_table: bool, f: Fields, s: State) -> Sum
     requires { ⌜ f .ck < 16 ⌝ }
@@ -77,16 +92,17 @@ pub(crate) fn sum_in(by_table: bool, f: Fields, s: State) -> Sum
 {
     let a = a_source(f, s);
     let b = b_source(f, s);
-    let controls = Controls {
-        cf: f.cf,
-        cg: f.cg,
-        cv: f.cv,
-        cc: f.cc,
-        s0: bit(s.s, 0),
-        s3: bit(s.s, 3),
-    };
+    let controls = controls(f, s);
     if by_table {
         return adder::add_by_table(a, b, controls);
     }
     adder::add(a, b, controls)
+}
+
+// What the adder does on the way to its answer.
+pub(crate) fn work_in(f: Fields, s: State) -> Work
+    requires { ⌜ f .ck < 16 ⌝ }
+    ensures { λ r. ⌜ r ≡ workIn f s ⌝ }
+{
+    adder::work_of(a_source(f, s), b_source(f, s), controls(f, s))
 }

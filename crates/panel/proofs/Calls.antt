@@ -12,16 +12,18 @@ use Rattle.word.specs.Word.{takenApart, packed}
 use Rattle.word.specs.declared.Fields.{Fields}
 use Rattle.word.specs.declared.Apart.{Apart}
 use Rattle.word.specs.declared.Packed.{Packed}
-use Rattle.machine.specs.Cycle.{Outcome, outcome, cycleOf}
+use Rattle.machine.specs.Cycle.{Outcome, outcome, cycleOf, nextSumOf}
 use Rattle.machine.specs.declared.State.{State}
 use Rattle.machine.specs.declared.Cycled.{Cycled}
+use Rattle.machine.specs.declared.NextSum.{NextSum}
 use Rattle.run.specs.Run.{runOf}
 use Rattle.run.specs.declared.Finished.{Finished}
-use Rattle.decimal.specs.Entry.{addOf}
+use Rattle.decimal.specs.Entry.{start, addOf}
 use Rattle.decimal.specs.declared.Added.{Added}
 use Rattle.digits.specs.Lent.{over}
-use Rattle.panel.specs.Record.{loaded, fieldsIn}
-use Rattle.panel.specs.Answers.{REFUSED, coded, counted, answered, answerApart, takeApartCall, answerPacked, packCall, called, cycled, cycledBy, cycleCall, endingCode, recordAfter, ranBy, runCall, addedCode, addedBy, addDecimalCall}
+use Rattle.channels.specs.Channels.{saved, loaded}
+use Rattle.panel.specs.Fields.{fieldsIn}
+use Rattle.panel.specs.Answers.{REFUSED, coded, counted, answered, answerApart, takeApartCall, answerPacked, packCall, called, cycled, cycledBy, cycleCall, endingCode, recordAfter, ranBy, runCall, answerNext, nextSumCall, startCall, addedCode, addedBy, addDecimalCall}
 
 -- ---- a word
 
@@ -45,9 +47,9 @@ module _ (fields : List ℕ) (address : ℕ) (word : List ℕ) where
   pack-is h f p x in-fields is e =
       ap (λ (y : Packed). answerPacked y word) (sym e ∙ is ∙ ap (λ (g : Fields). packed g address) in-fields) ∙ rw h
 
--- the room that is lent, past 19
-pub room : (m n : ℕ) → ltb m 18 || ltb n 1 ≡ false → (18 ≤ m) × (1 ≤ n)
-room m n h = let (a, b) = neither (ltb m 18) (ltb n 1) h in (ltb-false m 18 a, ltb-false n 1 b)
+-- the rooms that are lent, past 19
+pub both-lent : (m n k l : ℕ) → ltb m k || ltb n l ≡ false → (k ≤ m) × (l ≤ n)
+both-lent m n k l h = let (a, b) = neither (ltb m k) (ltb n l) h in (ltb-false m k a, ltb-false n l b)
 
 -- a word at the front
 pub front : (l : List ℕ) (w : ℕ) → 1 ≤ length l → set l 0 w ≡ over (w ∷ []) l
@@ -87,6 +89,27 @@ module _ (store main local state : List ℕ) (budget : ℕ) where
       → out ≡ recordAfter (f .count) (f .state) state → k ≡ endingCode (f .ending) → r ≡ counted k (f .count) → called r m l out ≡ runCall store main local state budget
   run-any m l out s f k r h in-state o p e q =
       (λ i. called ((q ∙ ap (λ (x : ℕ). counted x (f .count)) e) i) m l (p i)) ∙ ap (λ (x : Outcome Finished). ranBy x state) (o ∙ ap (runOf budget store main local) in-state) ∙ run-else h
+
+-- ---- the work of the next word, and the start of the shipped words
+
+module _ (store state work : List ℕ) where
+  pub next-short : ltb (length state) 22 || ltb (length work) 8 ≡ true → answered 19 work ≡ nextSumCall store state work
+  unfolding nextSumCall
+  next-short h = rw h
+
+  pub next-is : ltb (length state) 22 || ltb (length work) 8 ≡ false → (s : State) (n x : NextSum) → s ≡ loaded state → n ≡ nextSumOf store s → n ≡ x
+      → answerNext x work ≡ nextSumCall store state work
+  unfolding nextSumCall
+  next-is h s n x in-state is e = ap (λ (y : NextSum). answerNext y work) (sym e ∙ is ∙ ap (nextSumOf store) in-state) ∙ rw h
+
+module _ (first second n carry : ℕ) (state : List ℕ) where
+  pub start-short : length state < 22 → answered 19 state ≡ startCall first second n carry state
+  unfolding startCall
+  start-short h = rw (lt-ltb (length state) 22 h)
+
+  pub start-is : 22 ≤ length state → (s : State) (out : List ℕ) → s ≡ start first second n (not (eqb carry 0)) → out ≡ over (saved s) state → answered 0 out ≡ startCall first second n carry state
+  unfolding startCall
+  start-is h s out is e = ap (answered 0) (e ∙ ap (λ (x : State). over (saved x) state) is) ∙ rw (le-ltb (length state) 22 h)
 
 -- ---- decimal add
 

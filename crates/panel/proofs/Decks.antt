@@ -4,7 +4,7 @@ use mathlib.Core.Path.{_≡_}
 use mathlib.Core.List.{List, map}
 use native.Mathlib.Omega.{arith}
 use lib.ListN.{length, take, drop, length-append, length-take, length-drop}
-use Rattle.deck.specs.Lists.{pieces, joined}
+use Rattle.digits.specs.Lists.{pieces, joined}
 use Rattle.deck.specs.Deck.{groupsOf, blocksOf, wordsIn, wordsOf, readOf, writeOf}
 use Rattle.deck.specs.declared.Reading.the-variants as R
 use Rattle.deck.specs.declared.Writing.the-variants as W

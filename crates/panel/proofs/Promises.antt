@@ -19,7 +19,7 @@ use Rattle.machine.proofs.Promises.{refusal-keeps, stop-keeps}
 use Rattle.run.specs.Run.{runChecks, runBy, runOf}
 use Rattle.run.specs.declared.Finished.{Finished}
 use Rattle.run.proofs.Goes.{Machine, machine, Goes, here, next, done}
-use Rattle.panel.specs.Record.{loaded}
+use Rattle.channels.specs.Channels.{loaded}
 use Rattle.panel.specs.Answers.{RAN, coded, STOPPED, REFUSED, answered, Called, called, short, cycled, cycleCall, ranBy, runCall}
 use Rattle.panel.proofs.panel_take_apart.Reads as take-apart
 use Rattle.panel.proofs.panel_pack.Reads as pack
@@ -28,6 +28,9 @@ use Rattle.panel.proofs.panel_run.Reads as run
 use Rattle.panel.proofs.panel_add_decimal.Reads as add-decimal
 use Rattle.panel.proofs.panel_read_deck.Reads as read-deck
 use Rattle.panel.proofs.panel_write_deck.Reads as write-deck
+use Rattle.panel.proofs.panel_next_sum.Reads as next-sum
+use Rattle.panel.proofs.panel_start.Reads as start
+use Rattle.panel.proofs.panel_shipped.Reads as shipped
 
 -- ---- "on a refusal changes no lent byte", nor does a stop
 
@@ -138,3 +141,12 @@ read-deck-sole κs args r q x y a b = sole a b
 
 pub write-deck-sole : (κs : _) (args : _) (r q : ℕ) (x y : _) → write-deck.Post κs args r x → write-deck.Post κs args q y → answered r (now (x .1 .0)) ≡ answered q (now (y .1 .0))
 write-deck-sole κs args r q x y a b = sole a b
+
+pub next-sum-sole : (κs : _) (args : _) (r q : ℕ) (x y : _) → next-sum.Post κs args r x → next-sum.Post κs args q y → answered r (now (x .1 .1 .0)) ≡ answered q (now (y .1 .1 .0))
+next-sum-sole κs args r q x y a b = sole a b
+
+pub start-sole : (κs : _) (args : _) (r q : ℕ) (x y : _) → start.Post κs args r x → start.Post κs args q y → answered r (now (x .1 .1 .1 .1 .0)) ≡ answered q (now (y .1 .1 .1 .1 .0))
+start-sole κs args r q x y a b = sole a b
+
+pub shipped-sole : (κs : _) (args : _) (r q : ℕ) (x y : _) → shipped.Post κs args r x → shipped.Post κs args q y → answered r (now (x .0)) ≡ answered q (now (y .0))
+shipped-sole κs args r q x y a b = sole a b

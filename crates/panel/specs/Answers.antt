@@ -10,15 +10,18 @@ use Rattle.word.specs.declared.Apart.{Apart}
 use Rattle.word.specs.declared.Apart.the-variants as A
 use Rattle.word.specs.declared.Packed.{Packed}
 use Rattle.word.specs.declared.Packed.the-variants as P
-use Rattle.machine.specs.Cycle.{Outcome, outcome, cycleOf}
+use Rattle.machine.specs.Cycle.{Outcome, outcome, cycleOf, nextSumOf}
 use Rattle.machine.specs.declared.State.{State}
 use Rattle.machine.specs.declared.Cycled.{Cycled}
 use Rattle.machine.specs.declared.Cycled.the-variants as C
+use Rattle.machine.specs.declared.NextSum.{NextSum}
+use Rattle.machine.specs.declared.NextSum.the-variants as N
 use Rattle.run.specs.Run.{runOf}
 use Rattle.run.specs.declared.Finished.{Finished}
 use Rattle.run.specs.declared.Ending.{Ending}
 use Rattle.run.specs.declared.Ending.the-variants as E
-use Rattle.decimal.specs.Entry.{addOf}
+use Rattle.decimal.specs.Program.{shipped}
+use Rattle.decimal.specs.Entry.{start, addOf}
 use Rattle.decimal.specs.declared.Added.{Added}
 use Rattle.decimal.specs.declared.Added.the-variants as D
 use Rattle.digits.specs.Lent.{over}
@@ -27,7 +30,9 @@ use Rattle.deck.specs.declared.Reading.{Reading}
 use Rattle.deck.specs.declared.Reading.the-variants as R
 use Rattle.deck.specs.declared.Writing.{Writing}
 use Rattle.deck.specs.declared.Writing.the-variants as W
-use Rattle.panel.specs.Record.{recordLength, saved, loaded, fieldBytes, fieldsIn}
+use Rattle.channels.specs.Lamps.{width, kindsOf}
+use Rattle.channels.specs.Channels.{recordLength, workChannels, saved, loaded, worked}
+use Rattle.panel.specs.Fields.{fieldBytes, fieldsIn}
 
 -- enum panel_kind
 abbrev pub RAN : ℕ
@@ -97,7 +102,7 @@ pub record Called : Type 0 where
 abbrev pub called : ℕ → List ℕ → List ℕ → List ℕ → Called
 called number main local state = record { number = number; main = main; local = local; state = state }
 
--- a record that is too short: "19 where fewer than 22 bytes of state are lent, checked first"
+-- a record that is too short: "19 where fewer than PANEL_STATE bytes of state are lent, checked first"
 abbrev pub short : List ℕ → List ℕ → List ℕ → Called
 short main local state = called (coded REFUSED 19 0) main local state
 
@@ -131,6 +136,33 @@ ranBy r state =
 unfoldable pub runCall : List ℕ → List ℕ → List ℕ → List ℕ → ℕ → Called
 runCall store main local state budget =
     cond (ltb (length state) recordLength) (short main local state) (ranBy (runOf budget store main local (loaded state)) state)
+
+-- ---- the work of the word that would run next
+
+-- "0, with PANEL_WORK bytes written; 1 where no sum would be made"
+abbrev pub answerNext : NextSum → List ℕ → Answered
+answerNext (N.Sums w) work = answered 0 (over (worked w) work)
+answerNext N.Nothing work = answered 1 work
+
+-- PANEL_WORK: 8
+abbrev pub workLength : ℕ
+workLength = width (kindsOf workChannels)
+
+-- "19 where fewer than PANEL_STATE bytes of state or PANEL_WORK bytes of work are lent, checked first."
+unfoldable pub nextSumCall : List ℕ → List ℕ → List ℕ → Answered
+nextSumCall store state work =
+    cond (ltb (length state) recordLength || ltb (length work) workLength) (answered 19 work) (answerNext (nextSumOf store (loaded state)) work)
+
+-- ---- the shipped words, and the state from which the decimal entry runs them
+
+-- "0, or 19 where fewer than PANEL_STATE bytes are lent"; "carry_in: off at 0, on otherwise"
+unfoldable pub startCall : ℕ → ℕ → ℕ → ℕ → List ℕ → Answered
+startCall first second n carry state =
+    cond (ltb (length state) recordLength) (answered 19 state) (answered 0 (over (saved (start first second n (not (eqb carry 0)))) state))
+
+-- "the number of words, or 65536 * 19"
+unfoldable pub shippedCall : List ℕ → Answered
+shippedCall words = cond (ltb (length words) (length shipped)) (answered (65536 * 19) words) (answered (length shipped) (over shipped words))
 
 -- ---- decimal add
 

@@ -1,15 +1,19 @@
 // The panel's C interface, include/panel.h: bytes in, bytes out, over the libraries.
-mod record;
+mod fields;
 
 ghost use mathlib.Core.Path.{_≡_};
 ghost use Prim.Native.Nat.{_≤_};
 ghost use lib.ListN.{length};
 ghost use Rattle.machine.specs.Cycle.{outcome};
-ghost use Rattle.panel.specs.Answers.{coded, counted, answered, takeApartCall, packCall, called, cycleCall, endingCode, recordAfter, runCall, addedCode, addDecimalCall, readDeckCall, writeDeckCall};
+ghost use Rattle.panel.specs.Answers.{coded, counted, answered, takeApartCall, packCall, called, cycleCall, endingCode, recordAfter, runCall, nextSumCall, startCall, shippedCall, addedCode, addDecimalCall, readDeckCall, writeDeckCall};
+ghost use Rattle.digits.specs.Lent.{over};
+ghost use Rattle.channels.specs.Channels.{saved, worked};
+use adder::Work;
 use decimal::Added;
 use deck::Reading;
 use deck::Writing;
 use machine::Cycled;
+use machine::NextSum;
 use machine::State;
 use run::Ending;
 use word::Apart;
@@ -28,8 +32,10 @@ const SUMMED: u8 = 4;
 
 const BAD_DIGIT: u8 = 5;
 
-// PANEL_STATE, the record's length, and how many fields a word is taken apart into.
+// PANEL_STATE and PANEL_WORK, the records' lengths, and how many fields a word is taken apart into.
 const STATE: usize = 22;
+
+const WORK: usize = 8;
 
 const FIELDS: usize = 18;
 
@@ -57,7 +63,7 @@ pub extern "C" fn panel_take_apart(word: u64, address: u32, fields: &mut [u8]) -
     }
     match word::take_apart(word, address) {
         Apart::Fields(f) => {
-            record::put_fields(f, fields);
+            fields::put_fields(f, fields);
             0
         }
         Apart::Refused(number) => number as u32,
@@ -72,13 +78,22 @@ pub extern "C" fn panel_pack(fields: &[u8], address: u32, word: &mut [u64]) -> u
     if (fields.len() < FIELDS) | (word.len() < 1) {
         return 19;
     }
-    match word::pack(record::fields_in(fields), address) {
+    match word::pack(fields::fields_in(fields), address) {
         Packed::Word(w) => {
             word[0] = w;
             0
         }
         Packed::Refused(number) => number as u32,
     }
+}
+
+// Puts the record of a state.
+fn save(s: State, state: &mut [u8])
+    requires { ⌜ 22 ≤ length (now state) ⌝ }
+    ensures { λ _. ⌜ now (state .exit) ≡ over (saved s) (now (state .entry)) ⌝ }
+{
+    let shown = channels::saved(s);
+    digits::copy(&shown[0..22], state);
 }
 
 // One cycle. The record is written by a cycle that ran, and by nothing else.
@@ -94,9 +109,9 @@ pub extern "C" fn panel_cycle(
     if state.len() < STATE {
         return coded(REFUSED, 19, 0);
     }
-    match machine::cycle(store, main, local, record::load(state)) {
+    match machine::cycle(store, main, local, channels::loaded(state)) {
         Cycled::Ran(s) => {
-            record::save(s, state);
+            save(s, state);
             coded(RAN, 0, 0)
         }
         Cycled::Stopped(_) => coded(STOPPED, 0, 0),
@@ -122,7 +137,7 @@ fn save_after(count: u32, s: State, state: &mut [u8])
     if count == 0 {
         return;
     }
-    record::save(s, state);
+    save(s, state);
 }
 
 // A run.
@@ -139,12 +154,69 @@ pub extern "C" fn panel_run(
     if state.len() < STATE {
         return counted(coded(REFUSED, 19, 0), 0);
     }
-    let finished = run::run(store, main, local, record::load(state), budget);
+    let finished = run::run(store, main, local, channels::loaded(state), budget);
     let count = finished.count;
     let last = finished.state;
     let ending = finished.ending;
     save_after(count, last, state);
     counted(ending_code(ending), count)
+}
+
+// Puts the record of a cycle's work.
+fn save_work(w: Work, work: &mut [u8])
+    requires { ⌜ 8 ≤ length (now work) ⌝ }
+    ensures { λ _. ⌜ now (work .exit) ≡ over (worked w) (now (work .entry)) ⌝ }
+{
+    let shown = channels::worked(w);
+    digits::copy(&shown[0..8], work);
+}
+
+// The work of the word that would run next.
+#[no_mangle]
+pub extern "C" fn panel_next_sum(store: &[u64], state: &[u8], work: &mut [u8]) -> u32
+    ensures { λ r. ⌜ answered r (now (work .exit)) ≡ nextSumCall (now (store .entry)) (now (state .entry)) (now (work .entry)) ⌝ }
+{
+    if (state.len() < STATE) | (work.len() < WORK) {
+        return 19;
+    }
+    match machine::next_sum(store, channels::loaded(state)) {
+        NextSum::Sums(w) => {
+            save_work(w, work);
+            0
+        }
+        NextSum::Nothing => 1,
+    }
+}
+
+// The state from which the decimal entry runs the shipped words.
+#[no_mangle]
+pub extern "C" fn panel_start(
+    first: u16,
+    second: u16,
+    length: u8,
+    carry: u8,
+    state: &mut [u8],
+) -> u32
+    ensures { λ r. ⌜ answered r (now (state .exit)) ≡ startCall first second length carry (now (state .entry)) ⌝ }
+{
+    if state.len() < STATE {
+        return 19;
+    }
+    save(decimal::start(first, second, length, carry != 0), state);
+    0
+}
+
+// The shipped words.
+#[no_mangle]
+pub extern "C" fn panel_shipped(words: &mut [u64]) -> u32
+    ensures { λ r. ⌜ answered r (now (words .exit)) ≡ shippedCall (now (words .entry)) ⌝ }
+{
+    if words.len() < 21 {
+        return 65536 * 19;
+    }
+    let shipped = decimal::words();
+    digits::copy_words(&shipped[0..21], words);
+    21
 }
 
 // The carry out stands where a refusal's field stands.

@@ -40,3 +40,9 @@ runBy zero budget store main local s = cyclesOf budget store main local s 0
 
 unfoldable pub runOf : ℕ → List ℕ → List ℕ → List ℕ → State → Outcome Finished
 runOf budget store main local s = runBy (first (runChecks (length store) (length main) (length local) budget)) budget store main local s
+
+-- the paper's number of each ending, 0 where it does not refuse
+abbrev pub endingNumber : Ending → ℕ
+endingNumber Stopped = 0
+endingNumber (Refused number field) = number
+endingNumber Spent = 0

@@ -173,6 +173,47 @@ pub fn add_with(correct: Correction, a: u8, b: u8, controls: &Controls) -> Answe
     }
 }
 
+/// What the unit did on the way to its answer, in the order of the panel's PANEL_A_CHOSEN to PANEL_AFTER.
+#[derive(Clone, Copy, Debug, Default, PartialEq, Eq)]
+pub struct Work {
+    pub a_chosen: u8,
+    /// After crossing and gating.
+    pub a_gated: u8,
+    pub b_chosen: u8,
+    pub b_gated: u8,
+    /// Turned, or with the six; a logical operation takes no six.
+    pub b_entering: u8,
+    /// 0 in a logical operation.
+    pub carry_in: bool,
+    /// The sum before and after correction; of a logical operation both are the result.
+    pub before: u8,
+    pub after: u8,
+}
+
+pub fn work(a: u8, b: u8, controls: &Controls) -> Work {
+    let answer = add(a, b, controls);
+    let gated = gate_b(controls.cg, b);
+    let complement = entry(&COMPLEMENT, controls.cv)(controls.s0);
+    let (carry_in, six) = match entry(&OPERATIONS, controls.cc) {
+        Operation::Logical(_) => (false, false),
+        Operation::Sum(carry_in) => (carry_in(controls.s3), controls.cv == 3 && !complement),
+    };
+    Work {
+        a_chosen: a,
+        a_gated: gate_a(controls.cf, a),
+        b_chosen: b,
+        b_gated: gated,
+        b_entering: match (six, complement) {
+            (true, _) => six_more(gated),
+            (false, true) => !gated,
+            (false, false) => gated,
+        },
+        carry_in,
+        before: answer.sum,
+        after: answer.result,
+    }
+}
+
 fn logical(result: u8) -> Answer {
     Answer { result, z0: result == 0, sum: result, ..Answer::default() }
 }

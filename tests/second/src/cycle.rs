@@ -1,13 +1,15 @@
 //! One cycle: the checks in their order, then steps a to e on a copy of the state.
 
-use crate::adder::{self, Controls, Correction};
+use crate::adder::{self, Controls, Correction, Work};
 use crate::bits::{bit, with_bit};
 use crate::branch::{next_address, X6, X7};
 use crate::registers::{source_a, source_b, A_SOURCE, DESTINATION};
 use crate::state::{State, R, S};
 use crate::status::STATUS;
 use crate::storage::{cu_modelled, Storage, ACTION, STORE};
-use crate::word::{ca_to_w, fault, split, Word, AA, AK, AS, CA, CC, CD, CF, CG, CH, CL, CM, CS, CU, CV};
+use crate::word::{
+    ca_to_w, fault, split, Word, AA, AK, AS, CA, CC, CD, CF, CG, CH, CL, CM, CS, CU, CV, HIGHEST_ADDRESS,
+};
 use crate::Refusal;
 
 #[derive(Clone, Copy, Debug, PartialEq, Eq)]
@@ -139,13 +141,31 @@ fn steps(correct: Correction, word: &Word, storage: &mut Storage, state: &State)
 
 /// Step c, on sources and S as they stand after step a.
 fn arithmetic(correct: Correction, word: &Word, now: &State) -> adder::Answer {
-    let controls = Controls {
+    adder::add_with(correct, source_a(word, now), source_b(word, now), &controls(word, now))
+}
+
+fn controls(word: &Word, now: &State) -> Controls {
+    Controls {
         cf: word[CF],
         cg: word[CG],
         cv: word[CV],
         cc: word[CC],
         s0: bit(now.registers[S], 0),
         s3: bit(now.registers[S], 3),
-    };
-    adder::add_with(correct, source_a(word, now), source_b(word, now), &controls)
+    }
+}
+
+/// The work of the word that would run next; none where WX is not in the store, the word is refused by 3 to 9, or it stops.
+pub fn next_work(store: &[u64], state: &State) -> Option<Work> {
+    let bits = *store.get(usize::from(state.wx))?;
+    // In a longer store than a cycle takes, an address over 4,095 is refused before the word is looked at.
+    if u32::from(state.wx) > HIGHEST_ADDRESS || fault(bits, u32::from(state.wx)) != 0 {
+        return None;
+    }
+    let word = split(bits);
+    if word[CF] == STOP {
+        return None;
+    }
+    let now = after_arrival(&word, state);
+    Some(adder::work(source_a(&word, &now), source_b(&word, &now), &controls(&word, &now)))
 }

@@ -51,7 +51,7 @@ fn declares(line: &str, name: &str) -> bool {
     at_end && (rest.len() < line.trim_start().len() || after.starts_with(" :"))
 }
 
-/// A citation is `crate:name`, `crate:must-fail/label` or `second:test`.
+/// A citation is `crate:name`, `crate:must-fail/label`, `second:test` or `programs:test`.
 fn is_there(citation: &str) -> bool {
     let Some((home, name)) = citation.split_once(':') else {
         return true;
@@ -59,10 +59,17 @@ fn is_there(citation: &str) -> bool {
     if let Some(label) = name.strip_prefix("must-fail/") {
         return root().join(format!("crates/{home}/must-fail/{label}.edit")).exists();
     }
-    if home == "second" {
-        return declared_below("tests/second/tests", name);
+    if home == "second" || home == "programs" {
+        return ["tests", "src"].iter().any(|part| is_tested(&format!("tests/{home}/{part}"), name));
     }
     ["specs", "src", "proofs"].iter().any(|part| declared_below(&format!("crates/{home}/{part}"), name))
+}
+
+/// A test of that name stands in the folder.
+fn is_tested(folder: &str, name: &str) -> bool {
+    let text = text_below(&root().join(folder));
+    let lines: Vec<&str> = text.lines().map(str::trim).collect();
+    lines.windows(2).any(|pair| pair[0] == "#[test]" && pair[1] == format!("fn {name}() {{"))
 }
 
 fn declared_below(folder: &str, name: &str) -> bool {
@@ -71,7 +78,7 @@ fn declared_below(folder: &str, name: &str) -> bool {
 
 /// What stands between backquotes and is a citation, and not the form of one.
 fn cited(text: &str) -> Vec<&str> {
-    let forms = ["crate:name", "crate:must-fail/label", "second:name"];
+    let forms = ["crate:name", "crate:must-fail/label", "second:name", "programs:name"];
     let is_name = |c: &str| !c.contains(' ') && c.contains(':') && !c.contains("::") && !forms.contains(&c);
     text.split('`').skip(1).step_by(2).filter(|c| is_name(c)).collect()
 }

@@ -6,6 +6,7 @@ use native.Mathlib.Omega.{arith}
 use lib.ListN.{length, replicate}
 use lib.Seq.{set-at}
 use borrow.Author.Needs.{needs}
+use Rattle.digits.proofs.Copies.{copied-all}
 use Rattle.deck.specs.Deck.{headOf, checkOf, blockOf}
 use Rattle.deck.proofs.Written.{drop-zeros, length-padded, check-before}
 use Rattle.deck.proofs.block_of.Statement.{statement}
@@ -18,7 +19,7 @@ returns c =
     let ws = a .words .now in
     let ys : List ℕ = ws ++ replicate (62 - length ws) 0 in
     let h : a .b * 2 ^ 48 + length ws * 2 ^ 32 ≡ headOf (a .b) (length ws) = omega arith in
-    let y : c .before .before .copy .last .1 .0 ≡ ys = c .before .before .copy .ensures ∙ ap (λ (l : List ℕ). ws ++ l) (drop-zeros (length ws) 62) in
+    let y : c .before .before .copy-words .last .1 .0 ≡ ys = c .before .before .copy-words .ensures ∙ copied-all ws (replicate 62 0) (omega arith) ∙ ap (λ (l : List ℕ). ws ++ l) (drop-zeros (length ws) 62) in
     let n : length ys ≡ 62 = length-padded ws (omega arith) in
     let s : c .block-check .result ≡ checkOf (headOf (a .b) (length ws) ∷ ys) =
     (rw (h, y) at (c .block-check .ensures)) ∙ check-before (headOf (a .b) (length ws) ∷ ys) (0 ∷ []) (ap suc n) in

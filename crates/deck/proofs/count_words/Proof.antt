@@ -6,7 +6,7 @@ use native.Mathlib.Nat.{zero-add}
 use native.Mathlib.Omega.{arith}
 use lib.ListN.{length, drop, length-append, drop-of-length-le}
 use borrow.Author.Needs.{needs}
-use Rattle.deck.specs.Lists.{joined}
+use Rattle.digits.specs.Lists.{joined}
 use Rattle.deck.specs.Deck.{blocksOf, blockAt, countIn, wordsIn, wordsOf}
 use Rattle.deck.proofs.Groups.{length-groups, length-blocks}
 use Rattle.deck.proofs.Decks.{length-words, some-at, words-step}

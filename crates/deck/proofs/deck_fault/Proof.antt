@@ -7,7 +7,7 @@ use native.Mathlib.Omega.{arith}
 use lib.ListN.{length, getD, drop, drop-of-length-le}
 use borrow.Author.Needs.{needs}
 use Rattle.digits.specs.Refusal.{first}
-use Rattle.deck.specs.Lists.{inTurn}
+use Rattle.digits.specs.Lists.{inTurn}
 use Rattle.deck.specs.Deck.{blocksOf, blockChecks, deckChecks}
 use Rattle.deck.proofs.Turns.{turn-step, turn-stop}
 use Rattle.deck.proofs.Checks.{block-numbered}

@@ -7,8 +7,8 @@ use native.Mathlib.Omega.{arith}
 use lib.ListN.{length, take, getD}
 use lib.Seq.{take-suc, take-all}
 use borrow.Author.Needs.{needs}
-use Rattle.deck.specs.Number.{numberOf}
-use Rattle.deck.proofs.Number.{number-snoc}
+use Rattle.digits.specs.Number.{numberOf}
+use Rattle.digits.proofs.Number.{number-snoc}
 use Rattle.deck.proofs.group.Statement.{statement}
 use Rattle.deck.proofs.group.Tie as tie
 

@@ -5,9 +5,9 @@ use mathlib.Core.List.{_++_, map}
 use native.Mathlib.Omega.{arith}
 use lib.ListN.{length, take, drop, drop-of-length-le}
 use borrow.Author.Needs.{needs}
-use Rattle.deck.specs.Lists.{joined}
+use Rattle.digits.specs.Lists.{joined}
 use Rattle.deck.specs.Deck.{blocksOf, blockAt, countIn, wordsIn, wordsOf}
-use Rattle.deck.proofs.Walks.{Put, put-none, put-room, put-turn, put-all}
+use Rattle.digits.proofs.Puts.{Put, put-none, put-room, put-turn, put-all}
 use Rattle.deck.proofs.Groups.{length-groups, length-blocks}
 use Rattle.deck.proofs.Decks.{length-words, some-at, words-step}
 use Rattle.deck.proofs.put_all.Statement.{statement}

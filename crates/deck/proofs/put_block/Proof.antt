@@ -6,13 +6,13 @@ use native.Mathlib.Nat.{add-sub-cancel-left}
 use native.Mathlib.Omega.{arith}
 use lib.ListN.{length, getD, take, drop, length-take, length-drop, drop-of-length-le}
 use borrow.Author.Needs.{needs}
-use Rattle.deck.specs.Lists.{joined}
-use Rattle.deck.specs.Number.{digitsOf}
+use Rattle.digits.specs.Lists.{joined}
+use Rattle.digits.specs.Number.{digitsOf}
 use Rattle.deck.specs.Deck.{bytesOf}
 use Rattle.digits.proofs.Copies.{over-full}
-use Rattle.deck.proofs.Walks.{Put, put-none, put-turn, put-all}
+use Rattle.digits.proofs.Puts.{Put, put-none, put-turn, put-all}
 use Rattle.deck.proofs.Groups.{length-bytes}
-use Rattle.deck.proofs.Lists.{joined-step}
+use Rattle.digits.proofs.Lists.{joined-step}
 use Rattle.deck.proofs.put_block.Statement.{statement}
 use Rattle.deck.proofs.put_block.Tie as tie
 

@@ -5,10 +5,10 @@ use native.Mathlib.Nat.{add-sub-cancel-left}
 use native.Mathlib.Omega.{arith}
 use lib.ListN.{length, drop, length-take, length-drop, drop-of-length-le}
 use borrow.Author.Needs.{needs}
-use Rattle.deck.specs.Lists.{pieces}
+use Rattle.digits.specs.Lists.{pieces}
 use Rattle.deck.specs.Deck.{bytesOf, blockOf, blockCount, blocksFor, deckOf}
-use Rattle.deck.proofs.Lists.{length-pieces}
-use Rattle.deck.proofs.Walks.{Put, put-none, put-turn, put-all}
+use Rattle.digits.proofs.Lists.{length-pieces}
+use Rattle.digits.proofs.Puts.{Put, put-none, put-turn, put-all}
 use Rattle.deck.proofs.Written.{wordsAt, length-at, restOf, rest-step, short, length-block-bytes, length-deck}
 use Rattle.deck.proofs.put_deck.Statement.{statement}
 use Rattle.deck.proofs.put_deck.Tie as tie

@@ -6,9 +6,9 @@ use native.Mathlib.Omega.{arith}
 use lib.ListN.{length, drop, length-set}
 use lib.Seq.{drop-length}
 use borrow.Author.Needs.{needs}
-use Rattle.deck.specs.Number.{digitsOf}
-use Rattle.deck.proofs.Number.{digits-last}
-use Rattle.deck.proofs.Walks.{put-before}
+use Rattle.digits.specs.Number.{digitsOf}
+use Rattle.digits.proofs.Number.{digits-last}
+use Rattle.digits.proofs.Puts.{put-before}
 use Rattle.deck.proofs.put_group.Statement.{statement}
 use Rattle.deck.proofs.put_group.Tie as tie
 

@@ -6,7 +6,7 @@ use native.Mathlib.Omega.{arith}
 use lib.ListN.{length, drop, take, length-take, drop-of-length-le}
 use lib.Seq.{getD-take, length-take-le}
 use borrow.Author.Needs.{needs}
-use Rattle.deck.specs.Lists.{allZero}
+use Rattle.digits.specs.Lists.{allZero}
 use Rattle.deck.specs.Deck.{unusedIn}
 use Rattle.deck.proofs.Walks.{zero-step, zero-stop}
 use Rattle.deck.proofs.unused_wrong.Statement.{statement}

@@ -6,7 +6,7 @@ use native.Mathlib.Omega.{arith}
 use lib.ListN.{length, drop, drop-of-length-le}
 use borrow.Author.Needs.{needs}
 use Rattle.digits.specs.Refusal.{first}
-use Rattle.deck.specs.Lists.{inTurn}
+use Rattle.digits.specs.Lists.{inTurn}
 use Rattle.deck.specs.Deck.{wordChecks}
 use Rattle.deck.proofs.Turns.{turn-step, turn-stop}
 use Rattle.deck.proofs.Checks.{word-numbered, fault-is}

@@ -4,7 +4,7 @@ use native.Mathlib.Omega.{arith}
 use lib.ListN.{length}
 use borrow.Author.Needs.{needs}
 use Rattle.digits.specs.Refusal.{first}
-use Rattle.deck.specs.Lists.{inTurn}
+use Rattle.digits.specs.Lists.{inTurn}
 use Rattle.deck.specs.Deck.{wordsWrong, wordChecks, writeChecks}
 use Rattle.deck.proofs.Answers.{few, past, byteCount, write-refused, write-accepted, wrote}
 use Rattle.deck.proofs.Checks.{words-numbered}

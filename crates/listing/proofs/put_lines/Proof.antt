@@ -6,7 +6,7 @@ use native.Mathlib.Omega.{arith}
 use lib.ListN.{length, getD, take, drop, length-take, length-drop, drop-of-length-le}
 use borrow.Author.Needs.{needs}
 use Rattle.digits.proofs.Copies.{copied-full}
-use Rattle.deck.proofs.Walks.{Put, put-none, put-turn, put-all}
+use Rattle.digits.proofs.Puts.{Put, put-none, put-turn, put-all}
 use Rattle.listing.specs.Listing.{textLine, linesOf}
 use Rattle.listing.proofs.Texts.{length-line, length-lines, restOf, rest-step}
 use Rattle.listing.proofs.put_lines.Statement.{statement}

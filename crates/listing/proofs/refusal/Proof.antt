@@ -10,14 +10,16 @@ use Rattle.listing.proofs.refusal.Tie as tie
 returns : tie.Need-returns
 unfolding refusalOf
 returns c =
-    let n = c .before .before .before .before .before .before .before .before .before .args .number in
+    let front = c .before .before .before .before .before .before .before in
+    let n = front .before .before .before .args .number in
     let tail = tail-is (ltb n 10) (ltb n 100) (48 + n / 100) (48 + n / 10 % 10) (48 + n % 10) in
-    rw (c .before .before .before .before .before .before .before .zeros-in-front .ensures .0, tail) at (c .before .before .put-both .ensures)
+    rw (front .zeros-in-front .ensures .0, front .before .three-digits .ensures, tail) at (c .before .before .put-both .ensures)
 
 pub refusal-spec : {M : Type 1} → statement M
 refusal-spec =
     tie.close
     (tie.spec
+    (λ c κs. tt)
     (λ c. search needs)
     (λ c. search needs)
     (λ c. search needs)
@@ -26,6 +28,6 @@ refusal-spec =
     (λ c. search needs)
     (λ c. search needs)
     (λ c. search needs)
-    (λ c κs. search needs)
+    (λ c κs. tt)
     (λ c. search needs)
     returns)

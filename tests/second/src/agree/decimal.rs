@@ -3,39 +3,10 @@
 //! shipped words, which must end as the whole numbers say.
 
 use super::{digest_line, drawn_bytes, mix_bytes};
-use crate::bits::{bit, from_digits};
+use crate::bits::from_digits;
 use crate::decimal::{add_decimal, Outcome};
 use crate::random::{mix, Random};
-use crate::run::{run, Ending};
-use crate::state::{State, I, J, L, S, U, V};
-
-/// The shipped words, as crates/decimal has them.
-const SHIPPED: [u64; 21] = [
-    0x01809100150181,
-    0x010812401B6000,
-    0x020043000C6141,
-    0x048812400B6000,
-    0x020A83401D6180,
-    0x048282DF9B7800,
-    0x01801100008000,
-    0x0200B3801E6140,
-    0x01001100108000,
-    0x018B93C01F6181,
-    0x0780131F9C7900,
-    0x0B00115F807900,
-    0x0780935F9D7980,
-    0x0708439F8E7901,
-    0x070881C0086000,
-    0x088013DF9F7981,
-    0x0800B15F807900,
-    0x088811D0077F80,
-    0x088882DF9B7800,
-    0x040B9100150181,
-    0x01801100008000,
-];
-
-/// The word at which a run that summed stops.
-const SUMMED_AT: u16 = 0x14;
+use crate::shipped::{run_shipped, start};
 
 struct Trial {
     main: usize,
@@ -110,22 +81,6 @@ fn spoil(main: &mut [u8], start: usize, x: u64) {
     }
 }
 
-/// This engine's run of the shipped words: whether it summed, with which carry, and its count of cycles.
-fn run_shipped(main: &mut [u8], local: &mut [u8], trial: &Trial) -> (Outcome, u64) {
-    let mut state = State::default();
-    let bytes = |start: usize| (start as u16).to_be_bytes();
-    [state.registers[I], state.registers[J]] = bytes(trial.first);
-    [state.registers[U], state.registers[V]] = bytes(trial.second);
-    state.registers[L] = trial.length as u8;
-    state.registers[S] = u8::from(trial.carry) << 4;
-    let (ending, count) = run(&SHIPPED, main, local, &mut state, 40 * trial.length as u64 + 40);
-    assert_eq!(ending, Ending::Stopped);
-    match state.wx {
-        SUMMED_AT => (Outcome::Summed { carry: bit(state.registers[S], 3) }, count),
-        _ => (Outcome::BadDigit, count),
-    }
-}
-
 /// How often each answer was given.
 #[derive(Default)]
 struct Counts {
@@ -143,7 +98,8 @@ fn answer(digest: u64, trial: &Trial, main: &mut [u8], local: &mut [u8], counts:
         counts.refused[usize::from(number)] += 1;
         return mix(digest, u64::from(number) + 16);
     }
-    let (ran, count) = run_shipped(&mut ran_main, &mut ran_local, trial);
+    let start = start(trial.first as u16, trial.second as u16, trial.length as u8, trial.carry);
+    let (ran, count) = run_shipped(&mut ran_main, &mut ran_local, start);
     assert!(
         ran == outcome && ran_main == main && ran_local == local,
         "the shipped words give {ran:?} where whole numbers give {outcome:?}: {} bytes at {} and {}",

@@ -1,0 +1,5 @@
+pub mod Cells
+pub mod Chain
+pub mod Told
+pub mod Rows
+pub mod Lit

@@ -1,0 +1,24 @@
+-- results::fits. Assumes nothing.
+use Rattle.lamps.proofs.results.fits.Statement.{statement}
+use Rattle.lamps.proofs.results.fits.Tie as tie
+
+returns : tie.Need-returns
+returns c = ?
+
+returns-2 : tie.Need-returns-2
+returns-2 c = ?
+
+returns-3 : tie.Need-returns-3
+returns-3 c = ?
+
+returns-4 : tie.Need-returns-4
+returns-4 c = ?
+
+pub fits-spec : {M : Type 1} → statement M
+fits-spec =
+    tie.close
+    (tie.spec
+    returns
+    returns-2
+    returns-3
+    returns-4)

@@ -1,0 +1,98 @@
+// The walk: one record after the other with exactly one lamp lit, each with the lamp's name.
+ghost use mathlib.Core.Path.{_≡_};
+ghost use mathlib.Core.List.{map};
+ghost use Prim.Native.Nat.{_*_, _<_};
+ghost use lib.ListN.{length};
+ghost use Rattle.digits.specs.Lists.{joined};
+ghost use Rattle.text.specs.Text.{putOf, roomAfter};
+ghost use Rattle.lamps.specs.Walk.{rowName, pairs, walkLine, walkRow, walkOf};
+use crate::columns::DIGITS;
+use crate::columns::after;
+use crate::columns::put_cells;
+use text::Written;
+
+// The name of a row of lamps, at the right end of nine columns.
+fn name(row: usize) -> [u8; 9]
+    requires { ⌜ row < 22 ⌝ }
+    ensures { λ r. ⌜ r ≡ rowName row ⌝ }
+{
+    let names =
+        *b"        I        J        U        V        L        T        D        R        S        G        H        M        N        W        X       AC      1BC       Z0    ALLOW    LOCAL ARRIVING     BYTE";
+    let from = row * 9;
+    let end = from + 9;
+    let mut name = [b' '; 9];
+    digits::copy(&names[from..end], &mut name[0..9]);
+    name
+}
+
+// Puts a lamp: its row's name, its number in the row, and the record that lights it alone.
+fn put_lamp(row: usize, number: u8, byte: u8, out: &mut [u8])
+    requires { ⌜ (row < 22) × (length (now out) ≡ 77) ⌝ }
+    ensures { λ _. ⌜ now (out .exit) ≡ walkLine row (number, byte) ⌝ }
+{
+    let mut lit = [0u8; 22];
+    lit[row] = byte;
+    let spaces = [1u8; 22];
+    let digits = [2u8; 22];
+    let at = after(&name(row), out, 0);
+    after(&[number], out, at);
+    put_cells(
+        &spaces[0..22],
+        &digits[0..22],
+        &lit[0..22],
+        &mut out[10..76],
+    );
+    after(b"\n", out, 76);
+}
+
+// Puts some lamps of a row, by their numbers and the bytes that light them.
+fn put_lamps(row: usize, numbers: &[u8], bytes: &[u8], out: &mut [u8])
+    requires { ⌜ (row < 22) × ((length (now numbers) ≡ length (now bytes)) × (length (now out) ≡ 77 * length (now bytes))) ⌝ }
+    ensures { λ _. ⌜ now (out .exit) ≡ joined (map (walkLine row) (pairs (now (numbers .entry)) (now (bytes .entry)))) ⌝ }
+{
+    let mut i: usize = 0;
+    while i < bytes.len() {
+        let at = 77 * i;
+        let end = at + 77;
+        put_lamp(row, numbers[i], bytes[i], &mut out[at..end]);
+        i += 1;
+    }
+}
+
+// How many bytes the lamps of a row take: one lamp of a latch, eight of a byte.
+fn row_size(digits: u8) -> usize
+    ensures { λ r. ⌜ r ≡ length (walkRow 0 digits) ⌝ }
+{
+    if digits == 1 { 77 } else { 616 }
+}
+
+// Puts all lamps of a row.
+fn put_row(row: usize, digits: u8, out: &mut [u8])
+    requires { ⌜ (row < 22) × (length (now out) ≡ length (walkRow 0 digits)) ⌝ }
+    ensures { λ _. ⌜ now (out .exit) ≡ walkRow row digits ⌝ }
+{
+    if digits == 1 {
+        put_lamps(row, b" ", &[1], out);
+        return;
+    }
+    put_lamps(row, b"01234567", &[128, 64, 32, 16, 8, 4, 2, 1], out);
+}
+
+// All rows, in the order of the channels.
+pub fn walk(room: &mut [u8]) -> Written
+    ensures { λ r. ⌜ (r ≡ putOf walkOf (length (now (room .entry)))) × (now (room .exit) ≡ roomAfter walkOf (now (room .entry))) ⌝ }
+{
+    if room.len() < 10318 {
+        return Written::Refused(19);
+    }
+    let digits = DIGITS;
+    let mut at: usize = 0;
+    let mut row: usize = 0;
+    while row < 22 {
+        let end = at + row_size(digits[row]);
+        put_row(row, digits[row], &mut room[at..end]);
+        at = end;
+        row += 1;
+    }
+    Written::Text(at)
+}

@@ -1,0 +1,77 @@
+// The refusals in words.
+ghost use mathlib.Core.Path.{_≡_};
+ghost use Prim.Native.Nat.{_<_};
+ghost use lib.ListN.{length};
+ghost use Rattle.text.specs.Text.{putOf, roomAfter};
+ghost use Rattle.text.specs.Words.{wordsOf};
+use crate::Written;
+
+// How long the words of each refusal are.
+const LENGTHS: [u8; 23] = [
+    15,
+    63,
+    27,
+    38,
+    11,
+    11,
+    11,
+    11,
+    29,
+    11,
+    22,
+    39,
+    33,
+    44,
+    52,
+    57,
+    33,
+    49,
+    24,
+    26,
+    42,
+    32,
+    26,
+];
+
+// The row of a refusal in the table.
+fn row_of(number: u8) -> usize
+    ensures { λ r. ⌜ (r < 23) × (wordsOf r ≡ wordsOf number) ⌝ }
+{
+    if number < 23 { number as usize } else { 0 }
+}
+
+// The words of a refusal, or 19.
+pub fn words(number: u8, room: &mut [u8]) -> Written
+    ensures { λ r. ⌜ (r ≡ putOf (wordsOf number) (length (now (room .entry)))) × (now (room .exit) ≡ roomAfter (wordsOf number) (now (room .entry))) ⌝ }
+{
+    let table = *b"\
+        no such refusal                                                 \
+        a size is wrong: of the word store, of main or of local storage \
+        WX is not in the word store                                     \
+        one of the word's top nine bits is set                          \
+        PN is wrong                                                     \
+        PA is wrong                                                     \
+        PS is wrong                                                     \
+        PC is wrong                                                     \
+        CL = 2 and K to W in one word                                   \
+        PK is wrong                                                     \
+        a code is not modelled                                          \
+        the main address is not in main storage                         \
+        the decimal length is not 1 to 16                               \
+        a decimal field does not lie in main storage                    \
+        the decimal fields overlap and do not start together            \
+        the deck's length is 0, no multiple of 512, or over 34304       \
+        a block's number is not its place                               \
+        a count, reserved bytes or unused bytes are wrong               \
+        a block's check is wrong                                        \
+        the room lent is too small                                      \
+        a field or the address is beyond its width                      \
+        there are no words, or over 4096                                \
+        the budget is over 1000000                                      \
+        ";
+    let lengths = LENGTHS;
+    let row = row_of(number);
+    let from = row * 64;
+    let end = from + lengths[row] as usize;
+    crate::put(&table[from..end], room)
+}

@@ -1,0 +1,115 @@
+//! The built programs and the linked panel, run as a user runs them. What they must answer comes from the second engine.
+
+use std::fs::File;
+use std::io::{Read, Write};
+use std::path::{Path, PathBuf};
+use std::process::{Command, Stdio};
+use std::sync::LazyLock;
+use std::thread;
+
+/// The repository.
+pub fn root() -> PathBuf {
+    Path::new(env!("CARGO_MANIFEST_DIR")).join("../..").canonicalize().expect("the repository")
+}
+
+/// What a program wrote, and the status that it ended with.
+#[derive(Debug, PartialEq, Eq)]
+pub struct Said {
+    pub out: Vec<u8>,
+    pub err: String,
+    pub status: Option<i32>,
+}
+
+impl Said {
+    /// Standard output as text.
+    pub fn text(&self) -> String {
+        String::from_utf8_lossy(&self.out).into_owned()
+    }
+
+    /// All went well, and nothing was said on standard error.
+    pub fn well(&self) -> bool {
+        self.status == Some(0) && self.err.is_empty()
+    }
+}
+
+/// Runs a command on the bytes as its standard input. It may end before it has read them all.
+pub fn run(command: &mut Command, input: &[u8]) -> Said {
+    let mut child = command
+        .stdin(Stdio::piped())
+        .stdout(Stdio::piped())
+        .stderr(Stdio::piped())
+        .spawn()
+        .unwrap_or_else(|error| panic!("{command:?}: {error}"));
+    let mut stdin = child.stdin.take().expect("its standard input");
+    let bytes = input.to_vec();
+    let feeder = thread::spawn(move || drop(stdin.write_all(&bytes)));
+    let said = child.wait_with_output().expect("its end");
+    feeder.join().expect("the feeder");
+    Said { out: said.stdout, err: String::from_utf8_lossy(&said.stderr).into_owned(), status: said.status.code() }
+}
+
+/// Proves the programs, where they are not proved from the present files, so that no command has to say so.
+static READY: LazyLock<()> = LazyLock::new(|| {
+    for name in ["lister", "ship", "board"] {
+        let mut command = Command::new(root().join("tools/proved"));
+        let said = run(command.arg(root().join("target/bin").join(name)).args(["rt", "check", name]), &[]);
+        assert_eq!(said.status, Some(0), "{}", said.err);
+    }
+});
+
+/// A root command, as `lister`.
+pub fn command(name: &str, arguments: &[&str]) -> Command {
+    LazyLock::force(&READY);
+    let mut command = Command::new(root().join(name));
+    command.args(arguments);
+    command
+}
+
+/// A root command's answer to arguments and standard input.
+pub fn said(name: &str, arguments: &[&str], input: &[u8]) -> Said {
+    run(&mut command(name, arguments), input)
+}
+
+/// A folder of this test's own under target/, empty.
+pub fn folder(name: &str) -> PathBuf {
+    let folder = root().join("target/tried").join(name);
+    drop(std::fs::remove_dir_all(&folder));
+    std::fs::create_dir_all(&folder).expect("a folder");
+    folder
+}
+
+/// A file of these bytes, by its path.
+pub fn file(folder: &Path, name: &str, bytes: &[u8]) -> String {
+    let path = folder.join(name);
+    std::fs::write(&path, bytes).expect("a file");
+    path.to_string_lossy().into_owned()
+}
+
+/// The root command with a standard input that cannot be read: a folder.
+pub fn said_of_a_folder(name: &str) -> Said {
+    let mut child = command(name, &[])
+        .stdin(File::open(root()).expect("a folder opens"))
+        .stdout(Stdio::piped())
+        .stderr(Stdio::piped())
+        .spawn()
+        .expect("it starts");
+    finished(&mut child)
+}
+
+/// The root command with a standard output that takes nothing.
+pub fn said_to_full(name: &str, arguments: &[&str], input: &[u8]) -> Said {
+    let full = File::options().write(true).open("/dev/full").expect("/dev/full");
+    let mut child =
+        command(name, arguments).stdin(Stdio::piped()).stdout(full).stderr(Stdio::piped()).spawn().expect("it starts");
+    drop(child.stdin.take().expect("its standard input").write_all(input));
+    finished(&mut child)
+}
+
+fn finished(child: &mut std::process::Child) -> Said {
+    let (mut out, mut err) = (Vec::new(), String::new());
+    if let Some(pipe) = &mut child.stdout {
+        pipe.read_to_end(&mut out).expect("its output");
+    }
+    child.stderr.take().expect("its errors").read_to_string(&mut err).expect("its errors");
+    Said { out, err, status: child.wait().expect("its end").code() }
+}

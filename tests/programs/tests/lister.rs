@@ -1,0 +1,103 @@
+//! The lister and the program that ships the decimal add's deck, on decks of every length and refusal.
+
+#[path = "../../second/tests/common/mod.rs"]
+mod common;
+
+use programs::{said, said_of_a_folder, said_to_full, Said};
+use second::deck::{block_check, words_of, write_deck, BLOCK, LONGEST};
+use second::lister::list;
+use second::random::Random;
+use second::shipped::SHIPPED;
+
+fn deck_of(words: &[u64]) -> Vec<u8> {
+    let mut deck = vec![0; LONGEST];
+    let length = write_deck(words, &mut deck).expect("good words");
+    deck.truncate(length);
+    deck
+}
+
+fn good_deck(words: usize) -> Vec<u8> {
+    deck_of(&common::draw_words(&mut Random::new(3 + words as u64), words))
+}
+
+/// The block's check made right again after a change.
+fn mend(deck: &mut [u8], block: usize) {
+    let bytes = &mut deck[BLOCK * block..BLOCK * (block + 1)];
+    let groups = std::array::from_fn(|n| u64::from_be_bytes(bytes[8 * n..8 * n + 8].try_into().expect("a group")));
+    bytes[504..].copy_from_slice(&block_check(&groups).to_be_bytes());
+}
+
+/// A deck is listed as the second engine lists it. Decks of all lengths that fill, or just pass, a block are among them.
+#[test]
+fn decks_are_listed_to_the_last_word() {
+    for words in [1, 2, 61, 62, 63, 124, 125, 4095, 4096] {
+        let deck = good_deck(words);
+        let said = said("lister", &[], &deck);
+        assert!(said.well(), "{words} words: {said:?}");
+        assert_eq!(said.text().lines().count(), words);
+        assert_eq!(said.text(), list(&deck), "{words} words");
+    }
+}
+
+fn is_refused(deck: &[u8], number: u8) {
+    assert_eq!(words_of(deck), Err(number), "the second engine");
+    let said = said("lister", &[], deck);
+    assert_eq!(said.text(), format!("REFUSED {number}\n"));
+}
+
+#[test]
+fn a_wrong_deck_prints_its_refusal_only() {
+    is_refused(&[], 15);
+    is_refused(&good_deck(63)[..1023], 15);
+    let mut deck = good_deck(63);
+    deck[BLOCK + 1] = 2;
+    is_refused(&deck, 16);
+    let mut deck = good_deck(63);
+    deck[BLOCK + 3] = 63;
+    mend(&mut deck, 1);
+    is_refused(&deck, 17);
+    let mut deck = good_deck(63);
+    deck[BLOCK + 504] ^= 1;
+    is_refused(&deck, 18);
+    // PC of the last word of a full deck, under a right check.
+    let mut deck = good_deck(4096);
+    deck[66 * BLOCK + 39] ^= 1;
+    mend(&mut deck, 66);
+    is_refused(&deck, 7);
+    let mut deck = good_deck(2);
+    deck[16] = 1;
+    mend(&mut deck, 0);
+    is_refused(&deck, 3);
+}
+
+/// 34,304 bytes are the longest deck; of anything longer no more is read than shows it.
+#[test]
+fn too_long_an_input_is_refused_by_15() {
+    for more in [1, BLOCK, 1 << 20] {
+        let mut deck = good_deck(4096);
+        deck.resize(LONGEST + more, 0);
+        is_refused(&deck, 15);
+    }
+}
+
+fn told(said: &Said, line: &str) {
+    assert_eq!((said.text().as_str(), said.err.as_str()), ("", line));
+}
+
+#[test]
+fn a_read_that_fails_is_told() {
+    told(&said_of_a_folder("lister"), "lister: the input was not read\n");
+}
+
+#[test]
+fn a_write_that_fails_is_told() {
+    told(&said_to_full("lister", &[], &good_deck(1)), "lister: the text was not written\n");
+    told(&said_to_full("ship", &[], &[]), "ship: the deck was not written\n");
+}
+
+#[test]
+fn the_shipped_deck_has_the_shipped_words() {
+    let said = said("ship", &[], &[]);
+    assert!(said.well(), "{said:?}");
+    assert_eq!(said.out, deck_of(&SHIPPED));
+}

@@ -1,0 +1,446 @@
+//! The panel as other programs drive it, through include/panel.h and the linked library, beside the second engine's calls:
+//! what each call answers, and every byte that it was lent, on good and wrong input and on rooms one short.
+
+#[path = "../../second/tests/common/mod.rs"]
+mod common;
+
+use programs::{folder, root, run, Said};
+use second::deck::{block_check, write_deck, BLOCK, LONGEST};
+use second::panel;
+use second::random::Random;
+use second::word::{pack, Fields, GIVEN, LAYOUT};
+use std::collections::BTreeSet;
+use std::path::PathBuf;
+use std::process::Command;
+use std::sync::LazyLock;
+
+/// A call with all it is lent.
+#[derive(Clone, Debug)]
+enum Call {
+    TakeApart { word: u64, address: u32, fields: Vec<u8> },
+    Pack { fields: Vec<u8>, address: u32, word: Vec<u64> },
+    Cycle { store: Vec<u64>, main: Vec<u8>, local: Vec<u8>, state: Vec<u8> },
+    Run { store: Vec<u64>, main: Vec<u8>, local: Vec<u8>, state: Vec<u8>, budget: u32 },
+    Add { main: Vec<u8>, local: Vec<u8>, first: usize, second: usize, length: usize, carry: u8 },
+    ReadDeck { deck: Vec<u8>, words: Vec<u64> },
+    WriteDeck { words: Vec<u64>, deck: Vec<u8> },
+}
+
+/// What tests/driver.c reads and writes.
+#[derive(Default)]
+struct Message(Vec<u8>);
+
+impl Message {
+    fn number(mut self, number: u64) -> Message {
+        self.0.extend(number.to_le_bytes());
+        self
+    }
+
+    fn elements(mut self, bytes: &[u8]) -> Message {
+        self.0.extend(bytes);
+        self
+    }
+
+    fn wide(mut self, words: &[u64]) -> Message {
+        self.0.extend(words.iter().flat_map(|word| word.to_le_bytes()));
+        self
+    }
+
+    fn bytes(self, bytes: &[u8]) -> Message {
+        self.number(bytes.len() as u64).elements(bytes)
+    }
+
+    fn words(self, words: &[u64]) -> Message {
+        self.number(words.len() as u64).wide(words)
+    }
+}
+
+impl Call {
+    /// The call as the driver reads it: its number, and its arguments in order.
+    fn asked(&self) -> Vec<u8> {
+        let called = |number: u8| Message(vec![number]);
+        match self {
+            Call::TakeApart { word, address, fields } => {
+                called(0).number(*word).number((*address).into()).bytes(fields)
+            }
+            Call::Pack { fields, address, word } => called(1).bytes(fields).number((*address).into()).words(word),
+            Call::Cycle { store, main, local, state } => called(2).words(store).bytes(main).bytes(local).bytes(state),
+            Call::Run { store, main, local, state, budget } => {
+                called(3).words(store).bytes(main).bytes(local).bytes(state).number((*budget).into())
+            }
+            Call::Add { main, local, first, second, length, carry } => called(4)
+                .bytes(main)
+                .bytes(local)
+                .number(*first as u64)
+                .number(*second as u64)
+                .number(*length as u64)
+                .number((*carry).into()),
+            Call::ReadDeck { deck, words } => called(5).bytes(deck).words(words),
+            Call::WriteDeck { words, deck } => called(6).words(words).bytes(deck),
+        }
+        .0
+    }
+
+    /// What the second engine answers, with everything lent as it then stands.
+    fn expected(&self) -> (u64, Vec<u8>) {
+        let mut after = self.clone();
+        let answer = match &mut after {
+            Call::TakeApart { word, address, fields } => panel::take_apart(*word, *address, fields),
+            Call::Pack { fields, address, word } => panel::pack(fields, *address, word),
+            Call::Cycle { store, main, local, state } => panel::one_cycle(store, main, local, state),
+            Call::Run { store, main, local, state, budget } => panel::run_for(store, main, local, state, *budget),
+            Call::Add { main, local, first, second, length, carry } => {
+                panel::add(main, local, *first, *second, *length, *carry)
+            }
+            Call::ReadDeck { deck, words } => panel::read_deck(deck, words),
+            Call::WriteDeck { words, deck } => panel::write_deck(words, deck),
+        };
+        let message = Message::default().number(answer);
+        let message = match &after {
+            Call::TakeApart { fields, .. } => message.elements(fields),
+            Call::Pack { fields, word, .. } => message.elements(fields).wide(word),
+            Call::Cycle { store, main, local, state } | Call::Run { store, main, local, state, .. } => {
+                message.wide(store).elements(main).elements(local).elements(state)
+            }
+            Call::Add { main, local, .. } => message.elements(main).elements(local),
+            Call::ReadDeck { deck, words } => message.elements(deck).wide(words),
+            Call::WriteDeck { words, deck } => message.wide(words).elements(deck),
+        };
+        (answer, message.0)
+    }
+}
+
+/// The driver, built once.
+static DRIVER: LazyLock<PathBuf> = LazyLock::new(|| {
+    let program = folder("panel").join("driver");
+    let source = root().join("tests/programs/driver.c");
+    let built = run(Command::new(root().join("tools/host")).arg(source).arg(&program), &[]);
+    assert_eq!(built.status, Some(0), "{}", built.err);
+    program
+});
+
+/// Every call is answered as the second engine answers it. Gives the answers.
+fn agree(calls: &[Call]) -> Vec<u64> {
+    let asked: Vec<u8> = calls.iter().flat_map(Call::asked).collect();
+    let Said { out, err, status } = run(Command::new(root().join("tools/x86")).arg(&*DRIVER), &asked);
+    let mut rest = out.as_slice();
+    let mut answers = Vec::new();
+    for (place, call) in calls.iter().enumerate() {
+        let (answer, expected) = call.expected();
+        let (got, after) = rest.split_at(expected.len().min(rest.len()));
+        assert!(got == expected, "{}", difference(place, call, got, &expected));
+        rest = after;
+        answers.push(answer);
+    }
+    assert_eq!((rest.len(), status), (0, Some(0)), "{err}");
+    answers
+}
+
+fn difference(place: usize, call: &Call, got: &[u8], expected: &[u8]) -> String {
+    let at = got.iter().zip(expected).take_while(|(one, other)| one == other).count();
+    format!("call {place} differs at byte {at}: {:?} for {:?} of {call:?}", got.get(at), expected.get(at))
+}
+
+/// The refusal numbers among the answers of calls whose number stands from bit `at` on.
+fn refusals(answers: &[u64], at: u32) -> BTreeSet<u64> {
+    answers.iter().map(|answer| answer >> at & 0xFF).filter(|number| *number != 0).collect()
+}
+
+/// One of some values.
+fn one_of<T: Copy>(random: &mut Random, values: &[T]) -> T {
+    values[random.below(values.len() as u64) as usize]
+}
+
+fn bytes(random: &mut Random, count: usize) -> Vec<u8> {
+    common::draw_bytes(random, count)
+}
+
+const ADDRESSES: [u32; 6] = [0, 1, 2047, 4095, 4096, u32::MAX];
+
+/// A word that is right at the address, or has a bit turned, or was packed for another, or is any number.
+fn any_word(random: &mut Random, address: u32) -> u64 {
+    let fields = if random.below(2) == 0 { common::draw_modelled(random) } else { common::draw_fields(random) };
+    let word = pack(&fields, address % 4096).expect("fields in their widths");
+    match random.below(8) {
+        0 => word ^ 1 << random.below(64),
+        1 => pack(&fields, random.below(4096) as u32).expect("fields in their widths"),
+        // CA and K to W, and PK wrong, under a right PS.
+        2 => word ^ 1 << 35 ^ 1 << 20,
+        3 => word ^ 1 << 21 ^ 1 << 20,
+        4 => random.next(),
+        _ => word,
+    }
+}
+
+#[test]
+fn words_are_taken_apart() {
+    let random = &mut Random::new(71);
+    let calls: Vec<Call> = (0..6000)
+        .map(|_| {
+            let address = one_of(random, &ADDRESSES);
+            let room = one_of(random, &[0, 17, 18, 18, 18, 18, 18, 19, 40]);
+            Call::TakeApart { word: any_word(random, address), address, fields: bytes(random, room) }
+        })
+        .collect();
+    let answers = agree(&calls);
+    assert_eq!(refusals(&answers, 0), BTreeSet::from([3, 4, 5, 6, 7, 8, 9, 19, 20]));
+    assert!(answers.contains(&0));
+}
+
+/// Fields in their widths, but that one may be one beyond.
+fn any_fields(random: &mut Random) -> Fields {
+    let mut fields: Fields = GIVEN.map(|place| random.below(1 << LAYOUT[place].1) as u8);
+    if random.below(8) == 0 {
+        let which = random.below(18) as usize;
+        fields[which] = one_of(random, &[1 << LAYOUT[GIVEN[which]].1, 255]);
+    }
+    fields
+}
+
+#[test]
+fn words_are_packed() {
+    let random = &mut Random::new(73);
+    let calls: Vec<Call> = (0..6000)
+        .map(|_| {
+            let mut fields = any_fields(random).to_vec();
+            fields.resize(one_of(random, &[0, 17, 18, 18, 18, 18, 18, 19, 40]), 0xEE);
+            let room = one_of(random, &[0, 1, 1, 1, 1, 2]);
+            let word = (0..room).map(|_| random.next()).collect();
+            Call::Pack { fields, address: one_of(random, &ADDRESSES), word }
+        })
+        .collect();
+    let answers = agree(&calls);
+    assert_eq!(refusals(&answers, 0), BTreeSet::from([8, 9, 19, 20]));
+    assert!(answers.contains(&0));
+}
+
+/// A store of words of any kind, and storages and a record for it, of which a size is seldom wrong.
+struct Lent {
+    store: Vec<u64>,
+    main: Vec<u8>,
+    local: Vec<u8>,
+    state: Vec<u8>,
+}
+
+fn lent(random: &mut Random, stray: u64) -> Lent {
+    let mut words = one_of(random, &[1, 2, 16, 64, 256, 257]);
+    let mut main = one_of(random, &[1, 255, 256, 257, 1024, 1024, 1024, 1024]);
+    let (mut local, mut room) = (256, one_of(random, &[22, 22, 22, 22, 22, 23, 40]));
+    match random.below(128) {
+        0 => words = 0,
+        1 => words = 4097,
+        2 => main = 0,
+        3 => main = 65537,
+        4 => local = 255,
+        5 => local = 257,
+        6 => room = 21,
+        7 => room = 0,
+        8 => words = 4096,
+        9 => main = 65536,
+        _ => (),
+    }
+    let word = |random: &mut Random, address: u32| {
+        if random.below(stray) == 0 {
+            any_word(random, address)
+        } else {
+            pack(&common::draw_modelled(random), address % 4096).expect("fields in their widths")
+        }
+    };
+    let store = (0..words).map(|address| word(random, address as u32)).collect();
+    let mut state = bytes(random, room);
+    if let Some(record) = state.first_chunk_mut::<22>() {
+        // WX mostly in the store, and addresses mostly near the ends of a page.
+        let wx = if random.below(16) == 0 { random.next() as u16 } else { random.below(words.max(1)) as u16 };
+        record[13..15].copy_from_slice(&wx.to_be_bytes());
+        for high in [0, 2, 4, 11] {
+            record[high] = one_of(random, &[0, 0, 1, 3, 255]);
+        }
+        for latch in &mut record[15..21] {
+            *latch = one_of(random, &[0, 0, 1, 7, 255]);
+        }
+    }
+    Lent { store, main: bytes(random, main), local: bytes(random, local), state }
+}
+
+#[test]
+fn single_cycles() {
+    let random = &mut Random::new(79);
+    let calls: Vec<Call> = (0..12_000)
+        .map(|_| {
+            let Lent { store, main, local, state } = lent(random, 3);
+            Call::Cycle { store, main, local, state }
+        })
+        .collect();
+    let answers = agree(&calls);
+    assert_eq!(refusals(&answers, 8), BTreeSet::from([1, 2, 3, 4, 5, 6, 7, 8, 9, 10, 11, 19]));
+    let kinds: BTreeSet<u64> = answers.iter().map(|answer| answer & 0xFF).collect();
+    assert_eq!(kinds, BTreeSet::from([0, 1, 2]));
+    let fields: BTreeSet<u64> = answers.iter().map(|answer| answer >> 16).collect();
+    assert_eq!(fields, BTreeSet::from([0, 4, 5, 6, 7, 8, 9, 12, 15, 20, 21]));
+}
+
+#[test]
+fn runs() {
+    let random = &mut Random::new(83);
+    let budgets = [0, 1, 2, 10, 100, 1000, 1_000_001, u32::MAX];
+    let mut calls: Vec<Call> = (0..4000)
+        .map(|_| {
+            let Lent { store, main, local, state } = lent(random, 100);
+            Call::Run { store, main, local, state, budget: one_of(random, &budgets) }
+        })
+        .collect();
+    // A word that counts J up and goes on to itself.
+    let mut bench = common::Bench::new(1);
+    bench.put(0, &[("CA", 14), ("CB", 3), ("CK", 1), ("CD", 14), ("CF", 3), ("CG", 1)]);
+    for budget in [0, 1, 999_999, 1_000_000, 1_000_001] {
+        let (store, main, local) = (bench.store.clone(), bench.main.clone(), bench.local.clone());
+        calls.push(Call::Run { store, main, local, state: vec![0; 22], budget });
+    }
+    let answers = agree(&calls);
+    assert!(refusals(&answers, 8).is_superset(&BTreeSet::from([1, 2, 10, 11, 19, 22])));
+    let kinds: BTreeSet<u64> = answers.iter().map(|answer| answer & 0xFF).collect();
+    assert_eq!(kinds, BTreeSet::from([1, 2, 3]));
+    assert!(answers.contains(&(1_000_000 << 32 | 3)), "the longest run");
+}
+
+/// Bytes of good digits, of which one may be spoilt.
+fn digits(random: &mut Random, count: usize) -> Vec<u8> {
+    let high = one_of(random, &[10, 10, 1]);
+    let mut bytes: Vec<u8> = (0..count).map(|_| (random.below(high) * 16 + random.below(high)) as u8).collect();
+    if random.below(4) == 0 && count > 0 {
+        let at = random.below(count as u64) as usize;
+        bytes[at] = random.next() as u8;
+    }
+    bytes
+}
+
+#[test]
+fn decimal_adds() {
+    let random = &mut Random::new(89);
+    let calls: Vec<Call> = (0..8000)
+        .map(|_| {
+            let size: usize = one_of(random, &[48, 48, 48, 300, 300, 1, 0, 65536, 65537]);
+            let start = |random: &mut Random| match random.below(16) {
+                0 => usize::MAX - random.below(20) as usize,
+                1..=3 => size.saturating_sub(random.below(20) as usize),
+                _ => random.below(40) as usize,
+            };
+            let (first, other) = (start(random), start(random));
+            Call::Add {
+                main: digits(random, size),
+                local: bytes(random, one_of(&mut random.clone(), &[256, 256, 256, 256, 256, 256, 255, 257])),
+                first,
+                second: if random.below(6) == 0 { first } else { other },
+                length: one_of(random, &[0, 1, 1, 2, 2, 3, 8, 15, 16, 16, 17, usize::MAX]),
+                carry: one_of(random, &[0, 0, 1, 2, 255]),
+            }
+        })
+        .collect();
+    let answers = agree(&calls);
+    assert_eq!(refusals(&answers, 8), BTreeSet::from([1, 12, 13, 14]));
+    let endings: BTreeSet<u64> = answers.iter().map(|answer| answer & 0xFF_FF_FF).collect();
+    assert!(
+        endings.is_superset(&BTreeSet::from([4, 65536 + 4, 5])),
+        "summed with and without a carry, and a bad digit"
+    );
+}
+
+/// The check of a block made right again.
+fn mend(deck: &mut [u8], block: usize) {
+    let Some(bytes) = deck.get_mut(BLOCK * block..BLOCK * (block + 1)) else {
+        return;
+    };
+    let groups = std::array::from_fn(|n| u64::from_be_bytes(bytes[8 * n..8 * n + 8].try_into().expect("a group")));
+    bytes[504..].copy_from_slice(&block_check(&groups).to_be_bytes());
+}
+
+const WORD_COUNTS: [usize; 8] = [1, 2, 61, 62, 63, 124, 125, 200];
+
+fn deck_of(random: &mut Random, words: usize) -> Vec<u8> {
+    let mut deck = vec![0; LONGEST];
+    let length = write_deck(&common::draw_words(random, words), &mut deck).expect("good words");
+    deck.truncate(length);
+    deck
+}
+
+/// A byte of the deck's first block, in its head, its words, its unused groups or its check, and mended or not.
+fn damage(random: &mut Random, deck: &mut [u8]) {
+    let at = match random.below(4) {
+        0 => random.below(8),
+        1 => 8 + random.below(24),
+        2 => random.below(512),
+        _ => 504 + random.below(8),
+    };
+    deck[at as usize] ^= 1 << random.below(8);
+    if random.below(2) == 0 {
+        mend(deck, 0);
+    }
+}
+
+#[test]
+fn decks_are_read() {
+    let random = &mut Random::new(97);
+    let mut calls: Vec<Call> = (0..3000)
+        .map(|_| {
+            let words = one_of(random, &WORD_COUNTS);
+            let mut deck = deck_of(random, words);
+            match random.below(8) {
+                0..=3 => damage(random, &mut deck),
+                4 => deck.truncate(deck.len() - one_of(random, &[1, 8, 511, 512])),
+                _ => (),
+            }
+            let room = one_of(random, &[words, words, words + 1, words.saturating_sub(1), 0, 4096]);
+            Call::ReadDeck { deck, words: (0..room).map(|_| random.next()).collect() }
+        })
+        .collect();
+    for (words, room) in [(4096, 4096), (4096, 4095), (4095, 5000)] {
+        calls.push(Call::ReadDeck { deck: deck_of(random, words), words: vec![7; room] });
+    }
+    let mut long = deck_of(random, 4096);
+    long.resize(LONGEST + BLOCK, 0);
+    calls.push(Call::ReadDeck { deck: long, words: vec![7; 5000] });
+    let answers = agree(&calls);
+    assert!(refusals(&answers, 16).is_superset(&BTreeSet::from([3, 5, 6, 7, 15, 16, 17, 18, 19])));
+    assert!(answers.contains(&4096));
+}
+
+#[test]
+fn decks_are_written() {
+    let random = &mut Random::new(101);
+    let mut calls: Vec<Call> = (0..3000)
+        .map(|_| {
+            let count = one_of(random, &[0, 1, 2, 61, 62, 63, 124, 125]);
+            let mut words = common::draw_words(random, count);
+            if count > 0 && random.below(3) == 0 {
+                let at = random.below(count as u64);
+                words[at as usize] = any_word(random, at as u32);
+            }
+            let bytes_needed = count.div_ceil(62) * BLOCK;
+            let sizes = [bytes_needed, bytes_needed, bytes_needed + 1, bytes_needed.saturating_sub(1), 0, 2000];
+            let room = one_of(random, &sizes);
+            Call::WriteDeck { words, deck: bytes(random, room) }
+        })
+        .collect();
+    for (count, room) in [(4096, LONGEST), (4096, LONGEST - 1), (4097, 40_000)] {
+        let words = (0..count).map(|address| pack(&common::draw_fields(random), address % 4096).expect("fields"));
+        calls.push(Call::WriteDeck { words: words.collect(), deck: vec![7; room] });
+    }
+    let answers = agree(&calls);
+    assert_eq!(refusals(&answers, 16), BTreeSet::from([3, 4, 5, 6, 7, 8, 9, 19, 21]));
+    assert!(answers.contains(&(LONGEST as u64)));
+}
+
+/// The board maker's example: the word P, one cycle of it from J 5D, and the record that it leaves.
+#[test]
+fn the_example_shows_one_cycle_of_p() {
+    let said = run(Command::new("sh").arg(root().join("examples/panel/build.sh")), &[]);
+    assert_eq!(said.status, Some(0), "{}", said.err);
+    let mut record = [0; 22];
+    record[1] = 0x5D;
+    let answer = panel::one_cycle(&[common::P], &mut [0; 256], &mut [0; 256], &mut record);
+    assert_eq!(answer, 0);
+    let names = "I J U V L T D R S G H M N WX_high WX_low AC 1BC Z0 allow_write local arriving arriving_byte";
+    let lines = names.split(' ').zip(record).map(|(name, byte)| format!("{:<13} {byte:02X}\n", name.replace('_', " ")));
+    let expected = format!("word {:016X}\nkind 0, refusal 0, field 0\n{}", common::P, lines.collect::<String>());
+    assert_eq!(said.text(), expected);
+}

@@ -1,0 +1,120 @@
+//! The panel's calls, written from include/panel.h alone: numbers and bytes in, a number and bytes out.
+
+use crate::cycle::{cycle, Answer};
+use crate::decimal::{add_decimal, Outcome};
+use crate::run::{run, Ending};
+use crate::shipped::{run_shipped, start};
+use crate::state::State;
+use crate::word::{self, Fields};
+use crate::{deck, Refusal};
+
+/// PANEL_STATE: the bytes of a record.
+pub const STATE: usize = 22;
+
+/// The fields that a word is taken apart into.
+pub const FIELDS: usize = 18;
+
+// enum panel_kind.
+const RAN: u64 = 0;
+const STOPPED: u64 = 1;
+const REFUSED: u64 = 2;
+const SPENT: u64 = 3;
+const SUMMED: u64 = 4;
+const BAD_DIGIT: u64 = 5;
+
+/// kind + 256 * refusal number + 65536 * field of refusal 10, or the carry out.
+fn coded(kind: u64, number: Refusal, field: u8) -> u64 {
+    kind + 256 * u64::from(number) + 65536 * u64::from(field)
+}
+
+/// 2^32 * the cycles that ran.
+fn ran(count: u64) -> u64 {
+    count << 32
+}
+
+/// 0, or the refusal's number.
+fn numbered(answer: Result<(), Refusal>) -> u64 {
+    answer.map_or_else(u64::from, |()| 0)
+}
+
+pub fn take_apart(word: u64, address: u32, fields: &mut [u8]) -> u64 {
+    let Some(room) = fields.get_mut(..FIELDS) else {
+        return 19;
+    };
+    numbered(word::take_apart(word, address).map(|taken| room.copy_from_slice(&taken)))
+}
+
+pub fn pack(fields: &[u8], address: u32, word: &mut [u64]) -> u64 {
+    let lent: Option<&Fields> = fields.first_chunk();
+    let (Some(fields), Some(room)) = (lent, word.first_mut()) else {
+        return 19;
+    };
+    numbered(word::pack(fields, address).map(|packed| *room = packed))
+}
+
+/// The state of a record, or none where the record is too short.
+fn loaded(record: &[u8]) -> Option<State> {
+    record.first_chunk::<STATE>().map(State::from_bytes)
+}
+
+fn save(state: &State, record: &mut [u8]) {
+    record[..STATE].copy_from_slice(&state.to_bytes());
+}
+
+pub fn one_cycle(store: &[u64], main: &mut [u8], local: &mut [u8], record: &mut [u8]) -> u64 {
+    let Some(mut state) = loaded(record) else {
+        return coded(REFUSED, 19, 0);
+    };
+    match cycle(store, main, local, &mut state) {
+        Answer::Ran => {
+            save(&state, record);
+            coded(RAN, 0, 0)
+        }
+        Answer::Stopped => coded(STOPPED, 0, 0),
+        Answer::Refused { number, field } => coded(REFUSED, number, field),
+    }
+}
+
+pub fn run_for(store: &[u64], main: &mut [u8], local: &mut [u8], record: &mut [u8], budget: u32) -> u64 {
+    let Some(mut state) = loaded(record) else {
+        return coded(REFUSED, 19, 0);
+    };
+    let (ending, count) = run(store, main, local, &mut state, u64::from(budget));
+    // "a cycle that ran writes 0 or 1": where none ran, the record is as it was lent
+    if count > 0 {
+        save(&state, record);
+    }
+    let code = match ending {
+        Ending::Stopped => coded(STOPPED, 0, 0),
+        Ending::Refused { number, field } => coded(REFUSED, number, field),
+        Ending::Spent => coded(SPENT, 0, 0),
+    };
+    code + ran(count)
+}
+
+/// The sum is by whole numbers; the count is that of this engine's own run of the shipped words, on a copy.
+pub fn add(main: &mut [u8], local: &mut [u8], first: usize, second: usize, length: usize, carry_in: u8) -> u64 {
+    let carry = carry_in != 0;
+    let (mut same_main, mut same_local) = (main.to_vec(), local.to_vec());
+    let outcome = add_decimal(main, local, first, second, length, carry);
+    let mut count =
+        || run_shipped(&mut same_main, &mut same_local, start(first as u16, second as u16, length as u8, carry)).1;
+    match outcome {
+        Outcome::Summed { carry } => coded(SUMMED, 0, u8::from(carry)) + ran(count()),
+        Outcome::BadDigit => coded(BAD_DIGIT, 0, 0) + ran(count()),
+        Outcome::Refused { number } => coded(REFUSED, number, 0),
+    }
+}
+
+/// The count of words, or of bytes, and 65536 * refusal number.
+fn moved(answer: Result<usize, Refusal>) -> u64 {
+    answer.map_or_else(|number| 65536 * u64::from(number), |count| count as u64)
+}
+
+pub fn read_deck(bytes: &[u8], words: &mut [u64]) -> u64 {
+    moved(deck::read_deck(bytes, words))
+}
+
+pub fn write_deck(words: &[u64], bytes: &mut [u8]) -> u64 {
+    moved(deck::write_deck(words, bytes))
+}
