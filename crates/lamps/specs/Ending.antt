@@ -38,10 +38,6 @@ endingOf E.Stopped at = standing (ascii "STOPPED AT ") at
 endingOf E.Spent at = standing (ascii "SPENT AT ") at
 endingOf (E.Refused number field) at = refusedOf number field at
 
--- two numbers as they were typed
-unfoldable pub typedOf : List ℕ → List ℕ → List ℕ
-typedOf first second = first ++ (ascii " + " ++ second)
-
 -- the digits of a field
 abbrev pub fieldDigits : List ℕ → List ℕ
 fieldDigits field = joined (map (hexadecimal 2) field)
@@ -49,14 +45,15 @@ fieldDigits field = joined (map (hexadecimal 2) field)
 abbrev pub carryOf : Bool → List ℕ
 carryOf carry = ascii " CARRY " ++ ((48 + one carry) ∷ 10 ∷ [])
 
--- what an addition came to: the sum, as it stands in the first field, and the carry
+-- the sum, as it stands in the first field, and the carry
 unfoldable pub sumOf : List ℕ → Bool → List ℕ
 sumOf field carry = ascii " = " ++ (fieldDigits field ++ carryOf carry)
 
 unfoldable pub refusalOf : ℕ → List ℕ
 refusalOf number = ascii ": REFUSED " ++ (decimal number ++ (10 ∷ []))
 
-unfoldable pub resultOf : List ℕ → List ℕ → List ℕ → Added → List ℕ
-resultOf first second field (D.Summed carry count) = typedOf first second ++ sumOf field carry
-resultOf first second field (D.BadDigit count) = typedOf first second ++ ascii ": BAD DIGIT\n"
-resultOf first second field (D.Refused number) = typedOf first second ++ refusalOf number
+-- what an addition came to
+unfoldable pub resultOf : List ℕ → Added → List ℕ
+resultOf field (D.Summed carry count) = sumOf field carry
+resultOf field (D.BadDigit count) = ascii ": BAD DIGIT\n"
+resultOf field (D.Refused number) = refusalOf number

@@ -28,7 +28,7 @@ fn size(byte: u8) -> usize
 }
 
 // Puts a byte after its spaces, with its number of digits.
-fn put_cell(before: u8, digits: u8, byte: u8, out: &mut [u8])
+pub(crate) fn put_cell(before: u8, digits: u8, byte: u8, out: &mut [u8])
     requires { ⌜ length (now out) ≡ before + digits ⌝ }
     ensures { λ _. ⌜ now (out .exit) ≡ cell before digits byte ⌝ }
 {
