@@ -10,6 +10,10 @@
 #include <stddef.h>
 #include <stdint.h>
 
+#ifdef __cplusplus
+extern "C" {
+#endif
+
 /* A state is 22 bytes, the lamp channels in document 01's order. A latch byte is off at 0 and on at any other
  * value; a cycle that ran writes 0 or 1. With ARRIVING off, ARRIVING_BYTE means nothing and a cycle writes 0. */
 enum panel_channel {
@@ -45,6 +49,26 @@ uint32_t panel_cycle(const uint64_t *store, size_t words, uint8_t *main, size_t 
 uint64_t panel_run(const uint64_t *store, size_t words, uint8_t *main, size_t main_len,
                    uint8_t *local, size_t local_len, uint8_t *state, size_t state_len, uint32_t budget);
 
+/* The work of the word that would run next, for the jumper and for lamps between the registers and the adder. */
+enum panel_work {
+    PANEL_A_CHOSEN, PANEL_A_GATED,                  /* A by CA; after crossing and gating */
+    PANEL_B_CHOSEN, PANEL_B_GATED, PANEL_B_ENTERING, /* B by CB; gated; as it enters: turned, or with the six */
+    PANEL_CARRY_IN,
+    PANEL_BEFORE, PANEL_AFTER,                       /* the sum before and after correction */
+    PANEL_WORK                                       /* = 8, the record's length */
+};
+
+/* 0, with PANEL_WORK bytes written; 1 where no sum would be made (WX not in the store, a word refused by 3 to 9, a
+ * stop); 19 where fewer than PANEL_STATE bytes of state or PANEL_WORK bytes of work are lent, checked first. In a
+ * logical operation the carry in is 0 and both sums are the result. */
+uint32_t panel_next_sum(const uint64_t *store, size_t words, const uint8_t *state, size_t state_len,
+                        uint8_t *work, size_t work_len);
+
+/* The state from which the decimal entry runs the shipped words, and those words: 0, or 19 where fewer than
+ * PANEL_STATE bytes are lent; the number of words, or 65536 * 19. carry_in: off at 0, on otherwise. */
+uint32_t panel_start(uint16_t first, uint16_t second, uint8_t length, uint8_t carry_in, uint8_t *state, size_t state_len);
+uint32_t panel_shipped(uint64_t *words, size_t room);
+
 /* Decimal add: first field += second field. kind (PANEL_SUMMED, PANEL_BAD_DIGIT or PANEL_REFUSED)
  * + 256 * refusal number + 65536 * carry out + 2^32 * the cycles that ran. carry_in: off at 0, on otherwise. */
 uint64_t panel_add_decimal(uint8_t *main, size_t main_len, uint8_t *local, size_t local_len,
@@ -55,4 +79,7 @@ uint64_t panel_add_decimal(uint8_t *main, size_t main_len, uint8_t *local, size_
 uint32_t panel_read_deck(const uint8_t *deck, size_t deck_len, uint64_t *words, size_t room);
 uint32_t panel_write_deck(const uint64_t *words, size_t count, uint8_t *deck, size_t room);
 
+#ifdef __cplusplus
+}
+#endif
 #endif

@@ -1,4 +1,5 @@
-/* A start for a board's maker: pack the word P of document 01, run one cycle with it, print the 22 lamp channels.
+/* A start for a board's maker: pack the word P of document 01, run one cycle with it, print the 22 lamp channels. Then
+ * add 38, 47 and a carry by the shipped words, a cycle at a time, and look into the adder before each cycle.
  * build.sh beside this file builds and runs it.
  */
 #include "../../include/panel.h"
@@ -11,8 +12,14 @@ static const char *const names[PANEL_STATE] = {
 
 static uint8_t main_storage[256];
 static uint8_t local_storage[256];
+static uint8_t state[PANEL_STATE]; /* WX 0, all registers zero, latches off, nothing arriving */
 
-int main(void) {
+static uint32_t cycle(const uint64_t *store, size_t words) {
+    return panel_cycle(store, words, main_storage, sizeof main_storage, local_storage, sizeof local_storage,
+                       state, sizeof state);
+}
+
+static int one_cycle_of_p(void) {
     /* CN CH CL CM CU CA AA CB CK AK PK CD CF CG CV CC CS AS: J + 1 goes to J, and the next address is 1 */
     static const uint8_t fields[18] = {0, 0, 1, 1, 0, 14, 0, 3, 1, 0, 0, 14, 3, 1, 0, 0, 0, 0};
     uint64_t word = 0;
@@ -23,13 +30,34 @@ int main(void) {
     }
     printf("word %016llX\n", (unsigned long long)word);
 
-    uint8_t state[PANEL_STATE] = {0}; /* WX 0, all registers zero, latches off, nothing arriving */
     state[PANEL_J] = 0x5D;
-    uint32_t answer = panel_cycle(&word, 1, main_storage, sizeof main_storage, local_storage, sizeof local_storage,
-                                  state, sizeof state);
+    uint32_t answer = cycle(&word, 1);
     printf("kind %u, refusal %u, field %u\n", answer % 256, answer / 256 % 256, answer / 65536);
     for (int channel = 0; channel < PANEL_STATE; channel++) {
         printf("%-13s %02X\n", names[channel], state[channel]);
     }
     return answer % 256 == PANEL_RAN ? 0 : 1;
 }
+
+/* The first field is the byte at 10, the second the one at 20, and the carry in is on. */
+static int shipped_words(void) {
+    uint64_t words[64];
+    uint8_t work[PANEL_WORK];
+    uint32_t count = panel_shipped(words, 64);
+    if (count > 64 || panel_start(0x10, 0x20, 1, 1, state, sizeof state) != 0) return 1;
+    main_storage[0x10] = 0x38;
+    main_storage[0x20] = 0x47;
+    while (panel_next_sum(words, count, state, sizeof state, work, sizeof work) == 0) {
+        /* the cycles in which the gates change A, or the correction changes the sum */
+        if (work[PANEL_A_CHOSEN] != work[PANEL_A_GATED] || work[PANEL_BEFORE] != work[PANEL_AFTER]) {
+            printf("word %X%02X: A %02X, crossed and gated %02X; sum %02X, corrected %02X\n", state[PANEL_WX_HIGH],
+                   state[PANEL_WX_LOW], work[PANEL_A_CHOSEN], work[PANEL_A_GATED], work[PANEL_BEFORE],
+                   work[PANEL_AFTER]);
+        }
+        if (cycle(words, count) != PANEL_RAN) return 1;
+    }
+    printf("38 + 47 + 1 = %02X\n", main_storage[0x10]);
+    return 0;
+}
+
+int main(void) { return one_cycle_of_p() != 0 || shipped_words() != 0; }

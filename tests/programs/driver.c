@@ -140,6 +140,21 @@ static uint64_t called(int call) {
         uint8_t *deck = slice(1);
         return panel_write_deck(words, count_of(0), deck, count_of(1));
     }
+    case 7: {
+        uint64_t *store = slice(8);
+        uint8_t *state = slice(1), *work = slice(1);
+        return panel_next_sum(store, count_of(0), state, count_of(1), work, count_of(2));
+    }
+    case 8: {
+        uint16_t first = (uint16_t)number(), second = (uint16_t)number();
+        uint8_t length = (uint8_t)number(), carry_in = (uint8_t)number();
+        uint8_t *state = slice(1);
+        return panel_start(first, second, length, carry_in, state, count_of(0));
+    }
+    case 9: {
+        uint64_t *words = slice(8);
+        return panel_shipped(words, count_of(0));
+    }
     default:
         exit(6);
         return 0;

@@ -3,3 +3,4 @@ pub mod Chain
 pub mod Told
 pub mod Rows
 pub mod Lit
+pub mod Promises

@@ -24,9 +24,12 @@ enum Call {
     Add { main: Vec<u8>, local: Vec<u8>, first: usize, second: usize, length: usize, carry: u8 },
     ReadDeck { deck: Vec<u8>, words: Vec<u64> },
     WriteDeck { words: Vec<u64>, deck: Vec<u8> },
+    NextSum { store: Vec<u64>, state: Vec<u8>, work: Vec<u8> },
+    Start { first: u16, second: u16, length: u8, carry: u8, state: Vec<u8> },
+    Shipped { words: Vec<u64> },
 }
 
-/// What tests/driver.c reads and writes.
+/// What driver.c reads and writes.
 #[derive(Default)]
 struct Message(Vec<u8>);
 
@@ -77,14 +80,21 @@ impl Call {
                 .number((*carry).into()),
             Call::ReadDeck { deck, words } => called(5).bytes(deck).words(words),
             Call::WriteDeck { words, deck } => called(6).words(words).bytes(deck),
+            Call::NextSum { store, state, work } => called(7).words(store).bytes(state).bytes(work),
+            Call::Start { first, second, length, carry, state } => called(8)
+                .number((*first).into())
+                .number((*second).into())
+                .number((*length).into())
+                .number((*carry).into())
+                .bytes(state),
+            Call::Shipped { words } => called(9).words(words),
         }
         .0
     }
 
-    /// What the second engine answers, with everything lent as it then stands.
-    fn expected(&self) -> (u64, Vec<u8>) {
-        let mut after = self.clone();
-        let answer = match &mut after {
+    /// What the second engine answers. All that is lent is then as it leaves it.
+    fn make(&mut self) -> u64 {
+        match self {
             Call::TakeApart { word, address, fields } => panel::take_apart(*word, *address, fields),
             Call::Pack { fields, address, word } => panel::pack(fields, *address, word),
             Call::Cycle { store, main, local, state } => panel::one_cycle(store, main, local, state),
@@ -94,9 +104,18 @@ impl Call {
             }
             Call::ReadDeck { deck, words } => panel::read_deck(deck, words),
             Call::WriteDeck { words, deck } => panel::write_deck(words, deck),
-        };
+            Call::NextSum { store, state, work } => panel::next_sum(store, state, work),
+            Call::Start { first, second, length, carry, state } => {
+                panel::start(*first, *second, *length, *carry, state)
+            }
+            Call::Shipped { words } => panel::shipped(words),
+        }
+    }
+
+    /// An answer, and all that is lent as it stands: what the driver writes.
+    fn told(&self, answer: u64) -> Vec<u8> {
         let message = Message::default().number(answer);
-        let message = match &after {
+        match self {
             Call::TakeApart { fields, .. } => message.elements(fields),
             Call::Pack { fields, word, .. } => message.elements(fields).wide(word),
             Call::Cycle { store, main, local, state } | Call::Run { store, main, local, state, .. } => {
@@ -105,8 +124,22 @@ impl Call {
             Call::Add { main, local, .. } => message.elements(main).elements(local),
             Call::ReadDeck { deck, words } => message.elements(deck).wide(words),
             Call::WriteDeck { words, deck } => message.wide(words).elements(deck),
-        };
-        (answer, message.0)
+            Call::NextSum { store, state, work } => message.wide(store).elements(state).elements(work),
+            Call::Start { state, .. } => message.elements(state),
+            Call::Shipped { words } => message.wide(words),
+        }
+        .0
+    }
+
+    /// Whether the answer is a refusal, or another that leaves everything as it was.
+    fn changes_nothing(&self, answer: u64) -> bool {
+        match self {
+            Call::TakeApart { .. } | Call::Pack { .. } | Call::NextSum { .. } | Call::Start { .. } => answer != 0,
+            Call::Cycle { .. } => answer & 0xFF != 0,
+            Call::Run { .. } => answer >> 32 == 0,
+            Call::Add { .. } => answer & 0xFF == 2,
+            Call::ReadDeck { .. } | Call::WriteDeck { .. } | Call::Shipped { .. } => answer >> 16 != 0,
+        }
     }
 }
 
@@ -119,17 +152,20 @@ static DRIVER: LazyLock<PathBuf> = LazyLock::new(|| {
     program
 });
 
-/// Every call is answered as the second engine answers it. Gives the answers.
+/// Every call is answered as the second engine answers it, and a refusal changes no lent byte. Gives the answers.
 fn agree(calls: &[Call]) -> Vec<u64> {
     let asked: Vec<u8> = calls.iter().flat_map(Call::asked).collect();
     let Said { out, err, status } = run(Command::new(root().join("tools/x86")).arg(&*DRIVER), &asked);
     let mut rest = out.as_slice();
     let mut answers = Vec::new();
     for (place, call) in calls.iter().enumerate() {
-        let (answer, expected) = call.expected();
-        let (got, after) = rest.split_at(expected.len().min(rest.len()));
+        let mut after = call.clone();
+        let answer = after.make();
+        let expected = after.told(answer);
+        let (got, others) = rest.split_at(expected.len().min(rest.len()));
         assert!(got == expected, "{}", difference(place, call, got, &expected));
-        rest = after;
+        assert!(!call.changes_nothing(answer) || got == call.told(answer), "call {place} is refused, but not {call:?}");
+        rest = others;
         answers.push(answer);
     }
     assert_eq!((rest.len(), status), (0, Some(0)), "{err}");

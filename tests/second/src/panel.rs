@@ -1,15 +1,19 @@
 //! The panel's calls, written from include/panel.h alone: numbers and bytes in, a number and bytes out.
 
-use crate::cycle::{cycle, Answer};
+use crate::adder::Work;
+use crate::cycle::{cycle, next_work, Answer};
 use crate::decimal::{add_decimal, Outcome};
 use crate::run::{run, Ending};
-use crate::shipped::{run_shipped, start};
+use crate::shipped::{self, run_shipped, SHIPPED};
 use crate::state::State;
 use crate::word::{self, Fields};
 use crate::{deck, Refusal};
 
 /// PANEL_STATE: the bytes of a record.
 pub const STATE: usize = 22;
+
+/// PANEL_WORK: the bytes of a cycle's work.
+pub const WORK: usize = 8;
 
 /// The fields that a word is taken apart into.
 pub const FIELDS: usize = 18;
@@ -92,13 +96,54 @@ pub fn run_for(store: &[u64], main: &mut [u8], local: &mut [u8], record: &mut [u
     code + ran(count)
 }
 
+/// enum panel_work.
+fn worked(work: &Work) -> [u8; WORK] {
+    [
+        work.a_chosen,
+        work.a_gated,
+        work.b_chosen,
+        work.b_gated,
+        work.b_entering,
+        u8::from(work.carry_in),
+        work.before,
+        work.after,
+    ]
+}
+
+pub fn next_sum(store: &[u64], record: &[u8], work: &mut [u8]) -> u64 {
+    let (Some(state), Some(room)) = (loaded(record), work.first_chunk_mut()) else {
+        return 19;
+    };
+    let Some(next) = next_work(store, &state) else {
+        return 1;
+    };
+    *room = worked(&next);
+    0
+}
+
+pub fn start(first: u16, second: u16, length: u8, carry_in: u8, record: &mut [u8]) -> u64 {
+    if record.len() < STATE {
+        return 19;
+    }
+    save(&shipped::start(first, second, length, carry_in != 0), record);
+    0
+}
+
+pub fn shipped(words: &mut [u64]) -> u64 {
+    let Some(room) = words.first_chunk_mut() else {
+        return moved(Err(19));
+    };
+    *room = SHIPPED;
+    moved(Ok(SHIPPED.len()))
+}
+
 /// The sum is by whole numbers; the count is that of this engine's own run of the shipped words, on a copy.
 pub fn add(main: &mut [u8], local: &mut [u8], first: usize, second: usize, length: usize, carry_in: u8) -> u64 {
     let carry = carry_in != 0;
     let (mut same_main, mut same_local) = (main.to_vec(), local.to_vec());
     let outcome = add_decimal(main, local, first, second, length, carry);
-    let mut count =
-        || run_shipped(&mut same_main, &mut same_local, start(first as u16, second as u16, length as u8, carry)).1;
+    let from = shipped::start(first as u16, second as u16, length as u8, carry);
+    let mut count = || run_shipped(&mut same_main, &mut same_local, from).1;
     match outcome {
         Outcome::Summed { carry } => coded(SUMMED, 0, u8::from(carry)) + ran(count()),
         Outcome::BadDigit => coded(BAD_DIGIT, 0, 0) + ran(count()),

@@ -1,4 +1,5 @@
-//! include/panel.h declares what crates/panel exports: the same functions, in the same order, with the same types.
+//! include/panel.h declares what crates/panel exports: the same functions, in the same order, with the same types. Its
+//! records are the lists of crates/channels.
 
 use std::fs;
 use std::path::Path;
@@ -44,6 +45,7 @@ fn declared(header: &str) -> Vec<Signature> {
 fn number(rattle: &str) -> &'static str {
     match rattle {
         "u8" => "uint8_t",
+        "u16" => "uint16_t",
         "u32" => "uint32_t",
         "u64" => "uint64_t",
         "usize" => "size_t",
@@ -78,7 +80,7 @@ fn exported(source: &str) -> Vec<Signature> {
 #[test]
 fn the_header_declares_what_the_panel_exports() {
     let declared = declared(&read("include/panel.h"));
-    assert_eq!(declared.len(), 7);
+    assert_eq!(declared.len(), 10);
     assert_eq!(declared, exported(&read("crates/panel/src/lib.rt")));
 }
 
@@ -90,17 +92,44 @@ fn constants(header: &str, name: &str) -> Vec<String> {
     body.split(',').map(|c| c.split('=').next().expect("a name").trim().to_owned()).filter(|c| !c.is_empty()).collect()
 }
 
+/// The constants of a channel, as `latchOf "AC" "AC" (λ s. s .ac)`: by the field that it shows.
+fn named(channel: &str) -> Vec<String> {
+    let field = channel.split(" .").nth(1).expect("a field").split(')').next().expect("its end");
+    let name = match field.trim_matches(['«', '»']) {
+        "one_bc" => "PANEL_1BC".to_owned(),
+        "local_selected" => "PANEL_LOCAL".to_owned(),
+        field => format!("PANEL_{}", field.to_uppercase()),
+    };
+    if channel.trim_start().starts_with("pairOf ") {
+        return vec![format!("{name}_HIGH"), format!("{name}_LOW")];
+    }
+    vec![name]
+}
+
+/// The constants of a list of channels in the specification, in its order.
+fn listed(list: &str) -> Vec<String> {
+    let specs = read("crates/channels/specs/Channels.antt");
+    let (_, after) = specs.split_once(&format!("\n{list} =\n")).expect("the list");
+    after.lines().take_while(|line| line.trim() != "[]").flat_map(named).collect()
+}
+
+/// An enum of the header has the constants of a list, and then its length, which the code has by the same name.
+fn has_the_channels(name: &str, list: &str, length: &str) {
+    let mut expected = listed(list);
+    let constant = format!("const {length}: usize = {};", expected.len());
+    assert!(read("crates/panel/src/lib.rt").contains(&constant), "not in the code: {constant}");
+    expected.push(format!("PANEL_{length}"));
+    assert_eq!(constants(&read("include/panel.h"), name), expected);
+}
+
 #[test]
 fn the_channels_are_those_of_the_record() {
-    let specs = read("crates/panel/specs/Record.antt");
-    let list = specs.split("channels =\n").nth(1).expect("the list").split("[]").next().expect("its end").to_owned();
-    let listed = list
-        .lines()
-        .filter_map(|line| line.split_once("-- "))
-        .flat_map(|(_, names)| names.split(", ").collect::<Vec<_>>());
-    let mut listed: Vec<String> = listed.map(|name| format!("PANEL_{name}")).collect();
-    listed.push("PANEL_STATE".into());
-    assert_eq!(constants(&read("include/panel.h"), "panel_channel"), listed);
+    has_the_channels("panel_channel", "channels", "STATE");
+}
+
+#[test]
+fn the_work_is_that_of_the_record() {
+    has_the_channels("panel_work", "workChannels", "WORK");
 }
 
 #[test]

@@ -1,0 +1,25 @@
+// What stands on the board's command line: numbers, registers with their values, and the cycles to show.
+mod fields;
+mod forms;
+mod numbers;
+mod registers;
+
+pub use fields::lay;
+pub use forms::given_of;
+pub use numbers::is_number;
+pub use numbers::number_of;
+pub use registers::with_register;
+
+// A number, or a text that is none.
+pub enum Number {
+    Is(u32),
+    Wrong,
+}
+
+// A register by its place with its value, the first or the last cycle to show, or none of them.
+pub enum Given {
+    Register(u8, u16),
+    From(u32),
+    To(u32),
+    Wrong,
+}
