@@ -80,7 +80,7 @@ addressForm text = names (ascii "WX") text && digitsFit 16 3 (drop 3 text)
 
 -- a limit: its name, '=', and a number
 unfoldable pub limitForm : List ℕ → List ℕ → Bool
-limitForm name text = names name text && numberFits (drop (suc (length name)) text)
+limitForm name text = names name text && numberFits (drop (length name + 1) text)
 
 -- what an argument gives
 unfoldable pub givenOf : List ℕ → Given

@@ -1,6 +1,6 @@
 // Digits in a field, two to a byte.
 ghost use mathlib.Core.Path.{_≡_};
-ghost use Prim.Native.Nat.{_+_, _*_, _<_};
+ghost use Prim.Native.Nat.{_<_};
 ghost use lib.ListN.{length};
 ghost use Rattle.arguments.specs.Arguments.{digitFromLast, laid};
 use crate::numbers::digit_value;

@@ -1,8 +1,8 @@
 // An argument of the command line.
 ghost use mathlib.Core.Path.{_≡_};
-ghost use Prim.Native.Nat.{_+_, _<_, _≤_};
+ghost use Prim.Native.Nat.{_≤_};
 ghost use lib.ListN.{length, drop};
-ghost use Rattle.arguments.specs.Arguments.{numberFits, valueFrom, capitalOf, names, placeIn, placeOf, byteForm, addressForm, limitForm, givenOf};
+ghost use Rattle.arguments.specs.Arguments.{capitalOf, names, placeIn, placeOf, byteForm, addressForm, limitForm, givenOf};
 use crate::Given;
 use crate::numbers::between;
 use crate::numbers::digits_fit;
@@ -21,7 +21,11 @@ fn capital(c: u8) -> u8
 fn after(text: &[u8], at: usize) -> &[u8]
     ensures { λ r. ⌜ now r ≡ drop at (now (text .entry)) ⌝ }
 {
-    if at < text.len() { &text[at..] } else { &text[text.len()..] }
+    if at < text.len() {
+        &text[at..]
+    } else {
+        &text[text.len()..]
+    }
 }
 
 // The text begins with the name, and '=' stands right after it.

@@ -1,153 +1,188 @@
-// board add: two decimal numbers, added by the shipped words one cycle at a time.
-use crate::arguments;
-use crate::arguments::show;
-use lamps::Text;
+// board add: two numbers, added by the shipped words one cycle at a time.
+ghost use mathlib.Core.Path.{_≡_};
+ghost use mathlib.Core.Bool.{true};
+ghost use Prim.Native.Nat.{_≤_};
+ghost use lib.ListN.{length};
+ghost use Rattle.machine.specs.Cycle.{outcome};
+ghost use Rattle.arguments.specs.Arguments.{digitsFit};
+ghost use Rattle.decimal.specs.Entry.{addOf};
+ghost use Rattle.text.specs.Text.{putOf, roomAfter};
+ghost use Rattle.board.specs.Adds.{firstStart, secondStart, fieldLength, laidOut, saidOf};
+use crate::go;
+use crate::go::View;
+use crate::options;
+use crate::options::Read;
+use crate::out;
+use crate::out::Out;
+use crate::tell;
+use decimal::Added;
+use text::Written;
 
-// The fields stand here, 16 bytes apart from their ends.
-const FIRST: usize = 0x100;
+// How many bytes the longer of two numbers takes.
+fn field_length(first: usize, second: usize) -> usize
+    requires { ⌜ (first ≤ 32) × (second ≤ 32) ⌝ }
+    ensures { λ r. ⌜ r ≡ fieldLength first second ⌝ }
+{
+    let longer = if first < second { second } else { first };
+    (longer + 1) / 2
+}
 
-const SECOND: usize = 0x200;
+// The two numbers in main storage, zeros round them.
+fn lay_out(first: &[u8], second: &[u8], length: usize, main: &mut [u8])
+    requires { ⌜ length (now main) ≡ 1024 ⌝ }
+    requires { ⌜ length ≤ 16 ⌝ }
+    ensures { λ _. ⌜ now (main .exit) ≡ laidOut length (now (first .entry)) (now (second .entry)) (now (main .entry)) ⌝ }
+{
+    let first_end = 0x100 + length;
+    arguments::lay(first, &mut main[0x100..first_end]);
+    let second_end = 0x200 + length;
+    arguments::lay(second, &mut main[0x200..second_end]);
+}
 
-// Every byte is a digit.
-fn all_digits(text: &[u8]) -> bool {
-    let mut i = 0;
-    while i < text.len() {
-        if 16 <= arguments::digit(text[i]) {
-            return false;
-        }
-        i += 1;
+struct Answered {
+    added: Added,
+    out: Out,
+}
+
+// The shipped words over the two fields, each cycle shown: the decimal entry's own run and answer.
+fn answered(
+    view: View,
+    length: usize,
+    carry: bool,
+    main: &mut [u8],
+    local: &mut [u8],
+    room: &mut [u8],
+) -> Answered
+    requires { ⌜ (1 ≤ length) × (length ≤ 16) ⌝ }
+    requires { ⌜ (length (now main) ≡ 1024) × (length (now local) ≡ 256) ⌝ }
+    ensures { λ r. ⌜ outcome (r .added) (now (main .exit)) (now (local .exit)) ≡ addOf (now (main .entry)) (now (local .entry)) firstStart secondStart length carry ⌝ }
+{
+    let store = decimal::words();
+    let start = decimal::start(0x100, 0x200, length as u8, carry);
+    let budget = 40 * (length as u32) + 40;
+    let out = go::begin(view, start, room);
+    let went = go::go(view, &store, main, local, start, budget, out, room);
+    let out = go::end(went.finished, went.out, room);
+    Answered {
+        added: decimal::answered_at(went.finished),
+        out: out,
     }
-    true
 }
 
-// A byte of two digits.
-fn joined(high: u8, low: u8) -> u8 {
-    high % 16 * 16 + low % 16
+struct Said {
+    text: Written,
+    out: Out,
 }
 
-// Puts a digit of a field that ends before `end`, k digits from its last.
-fn put_digit(main: &mut [u8], end: usize, k: usize, digit: u8) {
-    let back = k / 2 + 1;
-    if end < back {
-        return;
-    }
-    let at = end - back;
-    if main.len() <= at {
-        return;
-    }
-    if k % 2 == 0 {
-        main[at] = joined(main[at] / 16, digit);
-        return;
-    }
-    main[at] = joined(digit, main[at]);
-}
-
-// Puts a number, its last digit in the byte before `end`.
-fn put_number(main: &mut [u8], end: usize, text: &[u8]) {
-    let mut k = 0;
-    while k < text.len() {
-        let from_last = text.len() - 1 - k;
-        put_digit(main, end, k, arguments::digit(text[from_last]));
-        k += 1;
-    }
-}
-
-// The digits of a field.
-fn field(t: Text, main: &[u8], at: usize, length: usize) -> Text {
-    let mut next = t;
-    let mut i = 0;
-    while i < length {
-        next = byte_at(next, main, at, i);
-        i += 1;
-    }
-    next
-}
-
-fn byte_at(t: Text, main: &[u8], at: usize, i: usize) -> Text {
-    if main.len() <= i {
-        return t;
-    }
-    let left = main.len() - i;
-    if left <= at {
-        return t;
-    }
-    lamps::put_byte(t, main[at + i])
-}
-
-// FIRST + SECOND, as they were typed.
-fn typed(first: &[u8], second: &[u8]) -> Text {
-    let t = lamps::put_all(lamps::empty(), first);
-    let t = lamps::put_all(t, b" + ");
-    lamps::put_all(t, second)
-}
-
-fn summed(t: Text, main: &[u8], length: usize, carry: bool) {
-    let t = field(lamps::put_all(t, b" = "), main, FIRST, length);
-    let t = lamps::put_all(t, b" CARRY ");
-    let t = if carry {
-        lamps::put(t, b'1')
-    } else {
-        lamps::put(t, b'0')
-    };
-    show(lamps::put(t, b'\n'));
-}
-
-fn longer(a: usize, b: usize) -> usize {
-    if a < b { b } else { a }
-}
-
-// Both numbers have 1 to 32 digits.
-fn run(lamps: bool, first: &[u8], second: &[u8], carry: bool) {
-    let digits = longer(first.len(), second.len()) % 64;
-    let length = (digits + 1) / 2;
+// Two numbers laid out and added, and what that came to, in the line lent.
+fn say(
+    view: View,
+    first: &[u8],
+    second: &[u8],
+    carry: bool,
+    line: &mut [u8],
+    room: &mut [u8],
+) -> Said
+    requires { ⌜ (digitsFit 16 32 (now first) ≡ true) × (digitsFit 16 32 (now second) ≡ true) ⌝ }
+    ensures { λ r. ⌜ (r .text ≡ putOf (saidOf (now (first .entry)) (now (second .entry)) carry) (length (now (line .entry)))) × (now (line .exit) ≡ roomAfter (saidOf (now (first .entry)) (now (second .entry)) carry) (now (line .entry))) ⌝ }
+{
+    let length = field_length(first.len(), second.len());
     let mut main = [0u8; 1024];
     let mut local = [0u8; 256];
-    put_number(&mut main, FIRST + length, first);
-    put_number(&mut main, SECOND + length, second);
-    if !lamps {
-        show(lamps::header());
+    lay_out(first, second, length, &mut main);
+    let answered = answered(view, length, carry, &mut main, &mut local, room);
+    let end = 0x100 + length;
+    let text = lamps::result(&main[0x100..end], answered.added, line);
+    Said {
+        text: text,
+        out: answered.out,
     }
-    let store = decimal::words();
-    let start = decimal::start(0x100, 0x200, (length % 64) as u8, carry);
-    let went = crate::go::go(lamps, &store, &mut main, &mut local, start, 680);
-    let t = typed(first, second);
-    if went.stopped & (went.state.wx == 0x14) {
-        summed(t, &main, length, digits::bit(went.state.s, 3));
+}
+
+// The numbers as they were typed, and the result after them.
+fn added(view: View, first: &[u8], second: &[u8], carry: bool)
+    requires { ⌜ (digitsFit 16 32 (now first) ≡ true) × (digitsFit 16 32 (now second) ≡ true) ⌝ }
+{
+    let mut room = [0u8; 65536];
+    let mut line = [0u8; 128];
+    let said = say(view, first, second, carry, &mut line, &mut room);
+    let out = out::text(said.out, first, &mut room);
+    let out = out::text(out, b" + ", &mut room);
+    let out = out::text(out, second, &mut room);
+    let out = result(out, &line, said.text, &mut room);
+    out::flush(out, &room);
+}
+
+fn result(out: Out, line: &[u8], text: Written, room: &mut [u8]) -> Out {
+    let Written::Text(size) = text else {
+        tell::line(b"the result was not made");
+        return out;
+    };
+    if line.len() < size {
+        return out;
+    }
+    out::text(out, &line[0..size], room)
+}
+
+enum Carry {
+    Is(bool),
+    Left,
+}
+
+// A carry of 0 or 1, where the argument is one.
+fn carry_at(at: usize) -> Carry {
+    let mut text = [0u8; 2];
+    let n = os::arg(at, &mut text);
+    if check::same(&text[..n], b"1") {
+        return Carry::Is(true);
+    }
+    if check::same(&text[..n], b"0") {
+        return Carry::Is(false);
+    }
+    Carry::Left
+}
+
+fn with_carry(lamps: bool, first: &[u8], second: &[u8], carry: bool, at: usize)
+    requires { ⌜ (digitsFit 16 32 (now first) ≡ true) × (digitsFit 16 32 (now second) ≡ true) ⌝ }
+{
+    let Read::Options(o) = options::options(at, false) else {
+        return;
+    };
+    let view = View {
+        lamps: lamps,
+        from: o.from,
+        to: o.to,
+    };
+    added(view, first, second, carry);
+}
+
+fn with_numbers(lamps: bool, first: &[u8], second: &[u8], at: usize)
+    requires { ⌜ at ≤ 5 ⌝ }
+    requires { ⌜ (digitsFit 16 32 (now first) ≡ true) × (digitsFit 16 32 (now second) ≡ true) ⌝ }
+{
+    match carry_at(at) {
+        Carry::Is(carry) => with_carry(lamps, first, second, carry, at + 1),
+        Carry::Left => with_carry(lamps, first, second, false, at),
+    }
+}
+
+// Two numbers, perhaps a carry, and options.
+pub fn add(lamps: bool) {
+    let at: usize = if lamps { 3 } else { 2 };
+    if !tell::enough(at + 1) {
         return;
     }
-    show(lamps::put_all(t, b": BAD DIGIT\n"));
-}
-
-fn is_number(text: &[u8]) -> bool {
-    if text.len() == 0 {
-        return false;
-    }
-    if 32 < text.len() {
-        return false;
-    }
-    all_digits(text)
-}
-
-// The arguments from `at` on: two numbers, and 1 for a carry in.
-pub fn add(lamps: bool, first_at: usize, second_at: usize, carry_at: usize) {
     let mut first = [0u8; 40];
+    let n = os::arg(at, &mut first);
+    if !arguments::is_number(&first[..n], 32) {
+        tell::wrong(at, b"is not a number of 1 to 32 digits");
+        return;
+    }
     let mut second = [0u8; 40];
-    let mut last = [0u8; 2];
-    let n = os::arg(first_at, &mut first);
-    if !is_number(&first[..n]) {
-        arguments::wrong(first_at, b"is not a number of 1 to 32 digits");
+    let m = os::arg(at + 1, &mut second);
+    if !arguments::is_number(&second[..m], 32) {
+        tell::wrong(at + 1, b"is not a number of 1 to 32 digits");
         return;
     }
-    let m = os::arg(second_at, &mut second);
-    if !is_number(&second[..m]) {
-        arguments::wrong(second_at, b"is not a number of 1 to 32 digits");
-        return;
-    }
-    let k = os::arg(carry_at, &mut last);
-    let carry = check::same(&last[..k], b"1");
-    if !carry & (os::errno() != libc::EINVAL) {
-        arguments::wrong(carry_at, b"is not 1");
-        return;
-    }
-    run(lamps, &first[..n], &second[..m], carry);
+    with_numbers(lamps, &first[..n], &second[..m], at + 2);
 }

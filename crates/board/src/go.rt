@@ -1,98 +1,155 @@
-// Cycles one at a time, each shown.
-use crate::arguments;
-use crate::arguments::show;
-use lamps::Text;
+// Cycles one at a time, each shown: they are the run.
+ghost use mathlib.Core.Path.{_≡_};
+ghost use Rattle.machine.specs.Cycle.{outcome};
+ghost use Rattle.run.specs.Run.{cyclesOf, runOf};
+use crate::out;
+use crate::out::Out;
+use crate::tell;
 use machine::Cycled;
 use machine::NextSum;
 use machine::State;
+use run::Ending;
+use run::Finished;
 
-fn show_cycle(lamps: bool, cycle: u32, at: u16, s: State, sum: NextSum) {
-    let NextSum::Sums(z) = sum else {
-        return;
-    };
-    if lamps {
-        show(lamps::picture(cycle, at, s, z));
-        return;
-    }
-    show(lamps::line(cycle, at, s, z));
-}
-
-fn at(t: Text, wx: u16) {
-    let t = lamps::put_all(t, b" AT");
-    show(lamps::put(lamps::address(t, wx), b'\n'));
-}
-
-// The field's name, by its place in the word.
-fn field_name(t: Text, field: u8) -> Text {
-    let names = b"CNPNPACHCLCMCUCAAACBCKAKPKPSCDCFCGCVCCCSASPC";
-    let k = field as usize;
-    if k == 0 {
-        return t;
-    }
-    if 22 < k {
-        return t;
-    }
-    let second = k * 2 - 1;
-    let first = second - 1;
-    lamps::put(lamps::put(lamps::put(t, b' '), names[first]), names[second])
-}
-
-pub fn refused(number: u8, field: u8, wx: u16) {
-    let t = arguments::small(lamps::put_all(lamps::empty(), b"REFUSED "), number);
-    at(field_name(t, field), wx);
-}
-
-fn spent() {
-    show(lamps::put_all(lamps::empty(), b"SPENT\n"));
-}
-
-fn stopped(wx: u16) {
-    at(lamps::put_all(lamps::empty(), b"STOPPED"), wx);
+// How cycles are shown, as lamps or as lines, and which.
+pub struct View {
+    pub lamps: bool,
+    pub from: u32,
+    pub to: u32,
 }
 
 pub struct Went {
-    pub state: State,
-    pub stopped: bool,
+    pub finished: Finished,
+    pub out: Out,
 }
 
-fn ended(state: State, stopped: bool) -> Went {
+fn shown(view: View, cycle: u32) -> bool {
+    (view.from <= cycle) & (cycle <= view.to)
+}
+
+// The work of the next cycle, where it is shown.
+fn work(view: View, cycle: u32, store: &[u64], s: State) -> NextSum {
+    if shown(view, cycle) {
+        return machine::next_sum(store, s);
+    }
+    NextSum::Nothing
+}
+
+fn show(view: View, cycle: u32, at: u16, s: State, sum: NextSum, out: Out, room: &mut [u8]) -> Out {
+    let NextSum::Sums(w) = sum else {
+        return out;
+    };
+    let out = out::ready(out, room);
+    let end = room.len();
+    let text = if view.lamps {
+        lamps::picture(cycle, at, s, w, &mut room[out.waiting..end])
+    } else {
+        lamps::line(cycle, at, s, w, &mut room[out.waiting..end])
+    };
+    out::put(out, text, room)
+}
+
+// The names of the columns, and the state before the first cycle, which counts as cycle 0.
+pub fn begin(view: View, s: State, room: &mut [u8]) -> Out {
+    let end = room.len();
+    let out = out::new();
+    let out = if view.lamps {
+        out
+    } else {
+        out::put(out, lamps::header(&mut room[0..end]), room)
+    };
+    if !shown(view, 0) {
+        return out;
+    }
+    let out = out::ready(out, room);
+    let text = if view.lamps {
+        lamps::start_picture(s, &mut room[out.waiting..end])
+    } else {
+        lamps::start(s, &mut room[out.waiting..end])
+    };
+    out::put(out, text, room)
+}
+
+// How the run ended. A refusal is told on standard error too.
+pub fn end(finished: Finished, out: Out, room: &mut [u8]) -> Out {
+    if let Ending::Refused(_, _) = finished.ending {
+        tell::line(b"the run was refused");
+    }
+    let out = out::ready(out, room);
+    let end = room.len();
+    let text = lamps::ending(
+        finished.ending,
+        finished.state.wx,
+        &mut room[out.waiting..end],
+    );
+    out::put(out, text, room)
+}
+
+fn went(ending: Ending, state: State, count: u32, out: Out) -> Went
+    ensures { λ r. ⌜ r .finished ≡ record { ending = ending; state = state; count = count } ⌝ }
+{
     Went {
-        state: state,
-        stopped: stopped,
+        finished: Finished {
+            ending: ending,
+            state: state,
+            count: count,
+        },
+        out: out,
     }
 }
 
-// Runs until stop, refusal or budget, and shows each cycle and how it ended.
-pub fn go(
-    lamps: bool,
+fn cycles(
+    view: View,
     store: &[u64],
     main: &mut [u8],
     local: &mut [u8],
-    start: State,
+    state: State,
     budget: u32,
-) -> Went {
-    let mut s = start;
+    first: Out,
+    room: &mut [u8],
+) -> Went
+    ensures { λ r. ⌜ outcome (r .finished) (now (main .exit)) (now (local .exit)) ≡ cyclesOf budget (now (store .entry)) (now (main .entry)) (now (local .entry)) state 0 ⌝ }
+{
+    let mut now = state;
     let mut done: u32 = 0;
+    let mut out = first;
     loop {
         if done == budget {
-            spent();
-            break ended(s, false);
+            break went(Ending::Spent, now, done, out);
         }
-        let sum = machine::next_sum(store, s);
-        match machine::cycle(store, main, local, s) {
+        let sum = work(view, done + 1, store, now);
+        match machine::cycle(store, main, local, now) {
             Cycled::Ran(next) => {
                 done = done + 1;
-                show_cycle(lamps, done, s.wx, next, sum);
-                s = next;
+                out = show(view, done, now.wx, next, sum, out, room);
+                now = next;
             }
             Cycled::Stopped(last) => {
-                stopped(last.wx);
-                break ended(last, true);
+                break went(Ending::Stopped, last, done, out);
             }
             Cycled::Refused(last, number, field) => {
-                refused(number, field, last.wx);
-                break ended(last, false);
+                break went(Ending::Refused(number, field), last, done, out);
             }
         }
     }
+}
+
+// Runs until stop, refusal or budget, and shows each cycle.
+pub fn go(
+    view: View,
+    store: &[u64],
+    main: &mut [u8],
+    local: &mut [u8],
+    state: State,
+    budget: u32,
+    out: Out,
+    room: &mut [u8],
+) -> Went
+    ensures { λ r. ⌜ outcome (r .finished) (now (main .exit)) (now (local .exit)) ≡ runOf budget (now (store .entry)) (now (main .entry)) (now (local .entry)) state ⌝ }
+{
+    let number = run::refusal(store.len(), main.len(), local.len(), budget);
+    if number != 0 {
+        return went(Ending::Refused(number, 0), state, 0, out);
+    }
+    cycles(view, store, main, local, state, budget, out, room)
 }

@@ -1,33 +1,95 @@
 // The host program, for a person at a bench or in front of a class.
-
 mod add;
-mod arguments;
 mod go;
+mod options;
+mod out;
 mod run;
-mod walk;
+mod tell;
 
 use libc::STDOUT_FILENO;
 
 fn usage() {
-    io::write_all(
+    let written = io::write_all(
         STDOUT_FILENO,
-        b"board add FIRST SECOND [1]             adds two decimal numbers, the last 1 a carry in\nboard run DECK MAIN CYCLES [I=HH ..]   runs a deck over a storage image\nboard lamps add .. | board lamps run .. the same, each register as eight lamps\nboard walk                             lights one lamp after the other\n",
+        b"board add FIRST SECOND [0|1] [FROM=n] [TO=n]
+    adds two numbers of 1 to 32 digits, and a carry of 0 or 1; the digits A to F are allowed, and show the bad-digit ending
+board run DECK MAIN CYCLES [I=HH ..] [FROM=n] [TO=n]
+    runs a deck over a storage image for at most so many cycles, from the registers given: I J U V L T D R S G H M N=HH, WX=HHH
+board lamps add .. | board lamps run ..
+    the same, each register as eight lamps
+board walk
+    lights one lamp after the other
+FROM=n and TO=n show only those cycles; cycle 0 is the state before the first. Letters may be small.
+",
     );
+    if !written {
+        tell::line(b"the output was not written");
+    }
 }
 
-// A command and the place of its own arguments.
-fn command(lamps: bool, at: usize, first: usize, second: usize, third: usize, fourth: usize) {
+fn help() {
+    if tell::no_more(2) {
+        usage();
+    }
+}
+
+fn walk() {
+    if !tell::no_more(2) {
+        return;
+    }
+    let mut room = [0u8; 65536];
+    let text = lamps::walk(&mut room);
+    let out = out::put(out::new(), text, &room);
+    out::flush(out, &room);
+}
+
+enum Command {
+    Add,
+    Run,
+    Lamps,
+    Walk,
+    Help,
+    Other,
+}
+
+fn is_help(word: &[u8]) -> bool {
+    check::same(word, b"help") | (check::same(word, b"-h") | check::same(word, b"--help"))
+}
+
+fn command(word: &[u8]) -> Command {
+    if check::same(word, b"add") {
+        return Command::Add;
+    }
+    if check::same(word, b"run") {
+        return Command::Run;
+    }
+    if check::same(word, b"lamps") {
+        return Command::Lamps;
+    }
+    if check::same(word, b"walk") {
+        return Command::Walk;
+    }
+    if is_help(word) {
+        return Command::Help;
+    }
+    Command::Other
+}
+
+fn command_at(at: usize) -> Command {
     let mut word = [0u8; 16];
     let n = os::arg(at, &mut word);
-    if check::same(&word[..n], b"add") {
-        add::add(lamps, first, second, third);
+    command(&word[..n])
+}
+
+fn lamps() {
+    if !tell::enough(2) {
         return;
     }
-    if check::same(&word[..n], b"run") {
-        run::run(lamps, first, second, third, fourth);
-        return;
+    match command_at(2) {
+        Command::Add => add::add(true),
+        Command::Run => run::run(true),
+        _ => tell::wrong(2, b"is neither add nor run"),
     }
-    arguments::wrong(at, b"is neither add, run, lamps nor walk");
 }
 
 fn main() {
@@ -35,15 +97,12 @@ fn main() {
         usage();
         return;
     }
-    let mut word = [0u8; 16];
-    let n = os::arg(1, &mut word);
-    if check::same(&word[..n], b"walk") {
-        walk::walk();
-        return;
+    match command_at(1) {
+        Command::Add => add::add(false),
+        Command::Run => run::run(false),
+        Command::Lamps => lamps(),
+        Command::Walk => walk(),
+        Command::Help => help(),
+        Command::Other => tell::wrong(1, b"is neither add, run, lamps, walk nor help"),
     }
-    if check::same(&word[..n], b"lamps") {
-        command(true, 2, 3, 4, 5, 6);
-        return;
-    }
-    command(false, 1, 2, 3, 4, 5);
 }

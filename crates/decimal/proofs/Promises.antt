@@ -11,6 +11,7 @@ use Rattle.decimal.specs.Entry.{addChecks}
 use Rattle.decimal.specs.declared.Added.{Added}
 use Rattle.decimal.proofs.words.Reads as words
 use Rattle.decimal.proofs.start.Reads as start
+use Rattle.decimal.proofs.answered_at.Reads as answered-at
 use Rattle.decimal.proofs.add.Reads as add
 
 -- ---- no second answer fits, nor a second storage
@@ -20,6 +21,9 @@ words-sole κs args r q x y a b = sole a b
 
 pub start-sole : (κs : _) (args : _) (r q : State) (x y : _) → start.Post κs args r x → start.Post κs args q y → r ≡ q
 start-sole κs args r q x y a b = sole a b
+
+pub answered-at-sole : (κs : _) (args : _) (r q : Added) (x y : _) → answered-at.Post κs args r x → answered-at.Post κs args q y → r ≡ q
+answered-at-sole κs args r q x y a b = sole a b
 
 pub add-sole : (κs : _) (args : _) (r q : Added) (x y : _) → add.Post κs args r x → add.Post κs args q y → outcome r (now (x .0)) (now (x .1 .0)) ≡ outcome q (now (y .0)) (now (y .1 .0))
 add-sole κs args r q x y a b = sole (a .0) (b .0)

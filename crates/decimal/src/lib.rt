@@ -113,8 +113,8 @@ pub fn start(a: u16, b: u16, length: u8, carry: bool) -> State
     }
 }
 
-// By the word it stopped at.
-fn answered_at(f: Finished) -> Added
+// What a run of the shipped words answers, by the word it stopped at.
+pub fn answered_at(f: Finished) -> Added
     ensures { λ r. ⌜ r ≡ answeredAt f ⌝ }
 {
     let count = f.count;

@@ -1,33 +1,19 @@
 // Prints the deck on standard input: a line for each word, or how it is refused.
-ghost use lib.ListN.{length};
-ghost use Rattle.lister.specs.Input.{Inside};
+use input::Input;
 use libc::STDERR_FILENO;
 use libc::STDIN_FILENO;
 use libc::STDOUT_FILENO;
 use text::Written;
 
-enum Input {
-    Bytes(usize),
-    Failed,
+fn tell(line: &[u8]) {
+    io::write_all(STDERR_FILENO, line);
 }
 
-// Reads until the input ends or the room is full.
-fn read_input(room: &mut [u8]) -> Input
-    ensures { λ r. ⌜ Inside r (length (now (room .exit))) ⌝ }
-{
-    let mut done: usize = 0;
-    while done < room.len() {
-        let got = libc::read(STDIN_FILENO, &mut room[done..]);
-        if got < 0 {
-            return Input::Failed;
-        }
-        let more = io::count(got, &room[done..]);
-        if more == 0 {
-            return Input::Bytes(done);
-        }
-        done += more;
+// A line of a word begins with a digit, and a refusal with its name.
+fn tell_refusal(text: &[u8]) {
+    if digits::byte_at(text, 0) == b'R' {
+        tell(b"lister: the deck is refused; docs/NUMBERS.md has the numbers in words\n");
     }
-    Input::Bytes(done)
 }
 
 // The deck's room is one byte longer than any deck: longer input fills it, and is refused by 15.
@@ -35,9 +21,9 @@ fn read_input(room: &mut [u8]) -> Input
 // has no exit status, so a failure is told on standard error.
 fn main() {
     let mut deck = [0u8; 34305];
-    let input = read_input(&mut deck);
+    let input = input::read(STDIN_FILENO, &mut deck);
     let Input::Bytes(length) = input else {
-        io::write_all(STDERR_FILENO, b"lister: the input was not read\n");
+        tell(b"lister: the input was not read\n");
         return;
     };
     let mut text = [0u8; 77824];
@@ -46,6 +32,7 @@ fn main() {
         return;
     };
     if !io::write_all(STDOUT_FILENO, &text[0..size]) {
-        io::write_all(STDERR_FILENO, b"lister: the text was not written\n");
+        tell(b"lister: the text was not written\n");
     }
+    tell_refusal(&text);
 }

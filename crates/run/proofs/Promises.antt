@@ -20,6 +20,7 @@ use Rattle.run.specs.Run.{ended, onward, cyclesOf, runChecks, runBy, run
 use Rattle.run.specs.declared.Ending.the-variants.{Refused}
 use Rattle.run.specs.declared.Finished.{Finished}
 use Rattle.run.proofs.Runs.{refused-at-once, begins}
+use Rattle.run.proofs.refusal.Reads as refusal
 use Rattle.run.proofs.run.Reads as run
 use Rattle.run.proofs.run_by_table.Reads as run-by-table
 
@@ -87,6 +88,9 @@ run-exactly budget store main local s n which = (to (first cs) refl, back)
         by (suc k) z = z
 
 -- ---- no second answer fits, nor a second storage; and the table answers as the rule does
+
+pub refusal-sole : (κs : _) (args : _) (r q : ℕ) (x y : _) → refusal.Post κs args r x → refusal.Post κs args q y → r ≡ q
+refusal-sole κs args r q x y a b = sole a b
 
 pub run-sole : (κs : _) (args : _) (r q : Finished) (x y : _) → run.Post κs args r x → run.Post κs args q y → outcome r (now (x .1 .0)) (now (x .1 .1 .0)) ≡ outcome q (now (y .1 .0)) (now (y .1 .1 .0))
 run-sole κs args r q x y a b = sole a b

@@ -1,6 +1,7 @@
 // A run: cycles until stop, refusal or budget.
 ghost use mathlib.Core.Path.{_≡_};
-ghost use Rattle.run.specs.Run.{cyclesOf, runOf};
+ghost use Rattle.run.specs.Run.{cyclesOf, runChecks, runOf};
+ghost use Rattle.digits.specs.Refusal.{first};
 ghost use Rattle.machine.specs.Cycle.{outcome, cycleOf};
 use machine::Cycled;
 use machine::State;
@@ -69,6 +70,14 @@ fn cycles(
     }
 }
 
+// 1, 22, or 0.
+pub fn refusal(store: usize, main: usize, local: usize, budget: u32) -> u8
+    ensures { λ r. ⌜ r ≡ first (runChecks store main local budget) ⌝ }
+{
+    let wrong = digits::sizes_wrong(store, main, local);
+    digits::first_of(wrong, 1, digits::first_of(1000000 < budget, 22, 0))
+}
+
 fn run_with(
     by_table: bool,
     store: &[u64],
@@ -79,8 +88,7 @@ fn run_with(
 ) -> Finished
     ensures { λ r. ⌜ outcome r (now (main .exit)) (now (local .exit)) ≡ runOf budget (now (store .entry)) (now (main .entry)) (now (local .entry)) state ⌝ }
 {
-    let wrong = digits::sizes_wrong(store.len(), main.len(), local.len());
-    let number = digits::first_of(wrong, 1, digits::first_of(1000000 < budget, 22, 0));
+    let number = refusal(store.len(), main.len(), local.len(), budget);
     if number != 0 {
         return ended(Ending::Refused(number, 0), state, 0);
     }

@@ -8,7 +8,7 @@ use programs::{folder, root, run, Said};
 use second::deck::{block_check, write_deck, BLOCK, LONGEST};
 use second::panel;
 use second::random::Random;
-use second::word::{pack, Fields, GIVEN, LAYOUT};
+use second::word::{build, index_of, pack, Fields, GIVEN, LAYOUT};
 use std::collections::BTreeSet;
 use std::path::PathBuf;
 use std::process::Command;
@@ -164,7 +164,10 @@ fn agree(calls: &[Call]) -> Vec<u64> {
         let expected = after.told(answer);
         let (got, others) = rest.split_at(expected.len().min(rest.len()));
         assert!(got == expected, "{}", difference(place, call, got, &expected));
-        assert!(!call.changes_nothing(answer) || got == call.told(answer), "call {place} is refused, but not {call:?}");
+        assert!(
+            !call.changes_nothing(answer) || got == call.told(answer),
+            "call {place} is refused, and changes {call:?}"
+        );
         rest = others;
         answers.push(answer);
     }
@@ -466,17 +469,226 @@ fn decks_are_written() {
     assert!(answers.contains(&(LONGEST as u64)));
 }
 
-/// The board maker's example: the word P, one cycle of it from J 5D, and the record that it leaves.
+/// How the second engine answers a cycle from here, with as many words as a cycle takes, and main storage at every
+/// address: its kind and its refusal.
+fn cycle_from(store: &[u64], state: &[u8]) -> (u64, u64) {
+    let store = &store[..store.len().min(4096)];
+    let answer = panel::one_cycle(store, &mut vec![0; 65_536], &mut [0; 256], &mut state.to_vec());
+    (answer & 0xFF, answer >> 8 & 0xFF)
+}
+
 #[test]
-fn the_example_shows_one_cycle_of_p() {
-    let said = run(Command::new("sh").arg(root().join("examples/panel/build.sh")), &[]);
-    assert_eq!(said.status, Some(0), "{}", said.err);
+fn the_work_of_the_next_word() {
+    let random = &mut Random::new(103);
+    let calls: Vec<Call> = (0..12_000)
+        .map(|_| {
+            let Lent { store, state, .. } = lent(random, 3);
+            let room = one_of(random, &[0, 7, 8, 8, 8, 8, 8, 8, 9, 40]);
+            Call::NextSum { store, state, work: bytes(random, room) }
+        })
+        .collect();
+    let mut seen = BTreeSet::new();
+    for (call, answer) in calls.iter().zip(agree(&calls)) {
+        let Call::NextSum { store, state, work } = call else { unreachable!() };
+        let short = state.len() < 22 || work.len() < 8;
+        let cycle = cycle_from(store, state);
+        let expected = match cycle {
+            _ if short => 19,
+            (0, _) | (2, 10) => 0,
+            _ => 1,
+        };
+        assert_eq!(answer, expected, "{call:?}");
+        seen.insert((answer, if short { (0, 0) } else { cycle }));
+    }
+    // An empty store is 1 to a cycle.
+    let nothing = BTreeSet::from_iter((1..=9).map(|number| (1, (2, number))));
+    let others = BTreeSet::from([(0, (0, 0)), (0, (2, 10)), (1, (1, 0)), (19, (0, 0))]);
+    assert_eq!(seen, &nothing | &others);
+}
+
+/// A word that does the same at each address, in the store and beyond a cycle's.
+fn store_of(words: usize) -> Vec<u64> {
+    (0..words as u32).map(|address| build(address % 4096, common::P_FIELDS).expect("a word")).collect()
+}
+
+#[test]
+fn the_edges_of_the_next_word() {
+    // Words, WX, the bytes of state and of work that are lent, and the answer.
+    let cases = [
+        (1, 0, 22, 8, 0),
+        (1, 0, 23, 9, 0),
+        (1, 0, 300, 300, 0),
+        (1, 0, 21, 8, 19),
+        (1, 0, 22, 7, 19),
+        (1, 0, 0, 8, 19),
+        (1, 0, 22, 0, 19),
+        (0, 0, 21, 8, 19),
+        (0, 0, 22, 7, 19),
+        (0, 0, 22, 8, 1),
+        (1, 1, 22, 8, 1),
+        (1, 0x100, 22, 8, 1),
+        (1, 0xFFFF, 22, 8, 1),
+        (2, 1, 22, 8, 0),
+        (0x102, 0x101, 22, 8, 0),
+        (4096, 4095, 22, 8, 0),
+        (4096, 4096, 22, 8, 1),
+        (4097, 4095, 22, 8, 0),
+        (4097, 4096, 22, 8, 1),
+        (65_536, 65_535, 22, 8, 1),
+    ];
+    let random = &mut Random::new(107);
+    let call = |(words, wx, room, work, _): (usize, u16, usize, usize, u64)| {
+        let mut state = bytes(random, room);
+        if let Some(there) = state.get_mut(13..15) {
+            there.copy_from_slice(&wx.to_be_bytes());
+        }
+        Call::NextSum { store: store_of(words), state, work: bytes(random, work) }
+    };
+    let calls: Vec<Call> = cases.into_iter().map(call).collect();
+    assert_eq!(agree(&calls), cases.map(|case| case.4));
+}
+
+/// Each code of CF, CG, CV and CC with S0 and S3 off and on, among others of every kind.
+#[test]
+fn every_way_through_the_adder() {
+    let random = &mut Random::new(109);
+    let mut calls = Vec::new();
+    for way in 0..3 * 4096_u16 {
+        let mut fields = common::draw_modelled(random);
+        for (name, shift, codes) in [("CF", 0, 8), ("CG", 3, 4), ("CV", 5, 4), ("CC", 7, 8)] {
+            fields[index_of(name)] = (way >> shift) as u8 % codes;
+        }
+        let mut state = bytes(random, 22);
+        state[8] = state[8] & 0x6F | ((way >> 10) as u8 & 1) << 7 | ((way >> 11) as u8 & 1) << 4;
+        state[13..15].fill(0);
+        state[20] = one_of(random, &[0, 1, 200]);
+        calls.push(Call::NextSum { store: vec![pack(&fields, 0).expect("a word")], state, work: vec![0xEE; 8] });
+    }
+    let answers = agree(&calls);
+    assert_eq!(answers.iter().filter(|answer| **answer == 1).count(), 3 * 512, "CF 4 stops");
+}
+
+/// A record of these S, R and D, and of an arriving byte by its latch.
+fn record_of([s, r, d]: [u8; 3], [arriving, byte]: [u8; 2]) -> [u8; 22] {
     let mut record = [0; 22];
-    record[1] = 0x5D;
-    let answer = panel::one_cycle(&[common::P], &mut [0; 256], &mut [0; 256], &mut record);
-    assert_eq!(answer, 0);
-    let names = "I J U V L T D R S G H M N WX_high WX_low AC 1BC Z0 allow_write local arriving arriving_byte";
-    let lines = names.split(' ').zip(record).map(|(name, byte)| format!("{:<13} {byte:02X}\n", name.replace('_', " ")));
-    let expected = format!("word {:016X}\nkind 0, refusal 0, field 0\n{}", common::P, lines.collect::<String>());
-    assert_eq!(said.text(), expected);
+    [record[6], record[7], record[8]] = [d, r, s];
+    [record[20], record[21]] = [arriving, byte];
+    record
+}
+
+/// The work of a word that takes R as A and D as B, all of both unless the codes say otherwise.
+fn work_of(codes: common::Codes, record: [u8; 22]) -> [u8; 8] {
+    let word = build(0, &[&[("CA", 7), ("CB", 2), ("CF", 3), ("CG", 3), ("CM", 1)], codes].concat()).expect("a word");
+    let mut work = [0xEE; 10];
+    agree(&[Call::NextSum { store: vec![word], state: record.to_vec(), work: work.to_vec() }]);
+    assert_eq!(panel::next_sum(&[word], &record, &mut work), 0);
+    assert_eq!(work[8..], [0xEE; 2]);
+    *work.first_chunk().expect("the work")
+}
+
+/// The numbers of document 01, and others by its rules, worked by hand.
+#[test]
+fn works_by_hand() {
+    let cases: [(common::Codes, [u8; 3], [u8; 8]); 13] = [
+        (&[("CV", 3)], [0, 0x38, 0x47], [0x38, 0x38, 0x47, 0x47, 0xAD, 0, 0xE5, 0x85]),
+        (&[("CV", 3)], [0, 0x99, 0x01], [0x99, 0x99, 0x01, 0x01, 0x67, 0, 0x00, 0x00]),
+        (&[("CV", 3)], [0, 0x38, 0xAD], [0x38, 0x38, 0xAD, 0xAD, 0x03, 0, 0x3B, 0xD5]),
+        (&[("CV", 3), ("CC", 1)], [0x80, 0x85, 0x47], [0x85, 0x85, 0x47, 0x47, 0xB8, 1, 0x3E, 0x38]),
+        (&[("CV", 3), ("CC", 6)], [0x10, 0x38, 0x47], [0x38, 0x38, 0x47, 0x47, 0xAD, 1, 0xE6, 0x86]),
+        (&[], [0, 0x5D, 0x99], [0x5D, 0x5D, 0x99, 0x99, 0x99, 0, 0xF6, 0xF6]),
+        (&[("CV", 1)], [0, 0x00, 0x00], [0x00, 0x00, 0x00, 0x00, 0xFF, 0, 0xFF, 0xFF]),
+        (&[("CF", 5), ("CG", 0)], [0, 0x4B, 0x99], [0x4B, 0x04, 0x99, 0x00, 0x00, 0, 0x04, 0x04]),
+        (&[("CF", 6), ("CG", 1)], [0, 0x4B, 0x99], [0x4B, 0xB0, 0x99, 0x09, 0x09, 0, 0xB9, 0xB9]),
+        (&[("CF", 7), ("CG", 2)], [0, 0x4B, 0x23], [0x4B, 0xB4, 0x23, 0x20, 0x20, 0, 0xD4, 0xD4]),
+        // A logical operation takes no six and no carry; the complement it takes.
+        (&[("CV", 3), ("CC", 3)], [0x10, 0x49, 0x41], [0x49, 0x49, 0x41, 0x41, 0x41, 0, 0x49, 0x49]),
+        (&[("CV", 3), ("CC", 2)], [0x90, 0x49, 0x41], [0x49, 0x49, 0x41, 0x41, 0xBE, 0, 0x08, 0x08]),
+        // Where CL = 2, A is zero.
+        (&[("CL", 2)], [0, 0x38, 0x47], [0x00, 0x00, 0x47, 0x47, 0x47, 0, 0x47, 0x47]),
+    ];
+    for (codes, registers, expected) in cases {
+        assert_eq!(work_of(codes, record_of(registers, [0, 0])), expected, "{codes:?} {registers:X?}");
+    }
+}
+
+/// An arriving byte is in R before the work, but for a Store.
+#[test]
+fn an_arriving_byte_is_in_the_work() {
+    for (storage, arriving, a) in [(1, 0, 0x38), (1, 1, 0x99), (1, 200, 0x99), (0, 1, 0x99), (2, 1, 0x38)] {
+        let work = work_of(&[("CM", storage)], record_of([0, 0x38, 0x47], [arriving, 0x99]));
+        assert_eq!(work[0], a, "CM {storage}, arriving {arriving}");
+    }
+}
+
+const CARRIES: [u8; 5] = [0, 1, 2, 200, 255];
+
+#[test]
+fn starts() {
+    let random = &mut Random::new(113);
+    let mut calls: Vec<Call> = (0..6000)
+        .map(|_| {
+            let (first, second, length) = (random.next() as u16, random.next() as u16, random.next() as u8);
+            let room = one_of(random, &[0, 21, 22, 22, 22, 22, 23, 40]);
+            Call::Start { first, second, length, carry: one_of(random, &CARRIES), state: bytes(random, room) }
+        })
+        .collect();
+    for (length, carry) in (0..=255).flat_map(|length| CARRIES.map(|carry| (length, carry))) {
+        calls.push(Call::Start { first: 0xFFFF, second: 0x8000, length, carry, state: vec![0xEE; 22] });
+    }
+    assert_eq!(BTreeSet::from_iter(agree(&calls)), BTreeSet::from([0, 19]));
+}
+
+/// The addresses in I, J, U and V, the length in L, the carry in S3, all else zero, and what is past the record left.
+#[test]
+fn a_start_by_hand() {
+    for (carry, s) in [(0, 0), (1, 0x10), (200, 0x10)] {
+        let mut state = [0xEE; 30];
+        agree(&[Call::Start { first: 0x1234, second: 0xABCD, length: 16, carry, state: state.to_vec() }]);
+        assert_eq!(panel::start(0x1234, 0xABCD, 16, carry, &mut state), 0);
+        let mut expected = [0; 30];
+        expected[..9].copy_from_slice(&[0x12, 0x34, 0xAB, 0xCD, 16, 0, 0, 0, s]);
+        expected[22..].fill(0xEE);
+        assert_eq!(state, expected);
+    }
+}
+
+#[test]
+fn the_shipped_words() {
+    let random = &mut Random::new(127);
+    let rooms = [0, 1, 20, 21, 22, 4096];
+    let calls = rooms.map(|room| Call::Shipped { words: (0..room).map(|_| random.next()).collect() });
+    assert_eq!(agree(&calls), [65_536 * 19, 65_536 * 19, 65_536 * 19, 21, 21, 21]);
+}
+
+/// A decimal add, and the run of the shipped words from its start over the same storage.
+fn add_and_run(random: &mut Random) -> [Call; 2] {
+    let (mut words, mut state) = (vec![0; 21], vec![0; 22]);
+    let (main, local) = (digits(random, 64), bytes(random, 256));
+    let (first, second, length) = (random.below(16), 32 + random.below(16), 1 + random.below(16));
+    let carry = one_of(random, &CARRIES);
+    assert_eq!(panel::shipped(&mut words), 21);
+    assert_eq!(panel::start(first as u16, second as u16, length as u8, carry, &mut state), 0);
+    let run = Call::Run { store: words, main: main.clone(), local: local.clone(), state, budget: 1_000_000 };
+    let add = Call::Add { main, local, first: first as usize, second: second as usize, length: length as usize, carry };
+    [add, run]
+}
+
+/// Both storages, once the call is made.
+fn storage_after(mut call: Call) -> [Vec<u8>; 2] {
+    call.make();
+    match call {
+        Call::Add { main, local, .. } | Call::Run { main, local, .. } => [main, local],
+        other => panic!("no storage is lent to {other:?}"),
+    }
+}
+
+#[test]
+fn the_decimal_entry_runs_the_shipped_words_from_the_start() {
+    let random = &mut Random::new(131);
+    let pairs: Vec<[Call; 2]> = (0..1600).map(|_| add_and_run(random)).collect();
+    let answers = agree(&pairs.concat());
+    for ([add, run], answers) in pairs.into_iter().zip(answers.chunks(2)) {
+        assert_eq!(answers[1], answers[0] >> 32 << 32 | 1, "as many cycles, and stopped");
+        assert_eq!(storage_after(add), storage_after(run));
+    }
 }

@@ -10,24 +10,23 @@ use Rattle.run.proofs.run_with.Tie as tie
 
 returns : tie.Need-returns
 returns c =
-    let a = c .before .before .before .before .before .before .before .before .args in
+    let asked = c .before .before in
+    let a = asked .before .before .before .before .args in
     ap (λ (f : Finished). outcome f (now (a .main)) (now (a .local))) (c .ended .ensures)
-    ∙ refused-at-once (a .budget) (now (a .store)) (now (a .main)) (now (a .local)) (a .state) _
-    (rw (c .before .before .first-of2 .ensures, c .before .before .before .first-of .ensures, c .before .before .before .before .sizes-wrong .ensures)) (c .before .if1 .taken)
+    ∙ refused-at-once (a .budget) (now (a .store)) (now (a .main)) (now (a .local)) (a .state) _ (asked .refusal .ensures) (c .before .if1 .taken)
 
 returns-2 : tie.Need-returns-2
 returns-2 c =
-    let a = c .before .before .before .before .before .before .before .before .before .before .before .before .before .before .args in
-    c .before .before .before .before .cycles .ensures
-    ∙ begins (a .budget) (now (a .store)) (now (a .main)) (now (a .local)) (a .state) _
-    (rw (c .before .before .before .before .before .before .before .before .first-of2 .ensures, c .before .before .before .before .before .before .before .before .before .first-of .ensures, c .before .before .before .before .before .before .before .before .before .before .sizes-wrong .ensures)) (c .before .before .before .before .before .before .before .if1 .left)
+    let ran = c .before .before .before .before in
+    let passed = ran .before .before .before in
+    let a = passed .before .before .before .before .before .args in
+    ran .cycles .ensures
+    ∙ begins (a .budget) (now (a .store)) (now (a .main)) (now (a .local)) (a .state) _ (passed .before .refusal .ensures) (passed .if1 .left)
 
 pub run-with-spec : {M : Type 1} → statement M
 run-with-spec =
     tie.close
     (tie.spec
-    (λ c κs. tt)
-    (λ c κs. tt)
     (λ c κs. tt)
     (λ c κs. tt)
     returns

@@ -1,18 +1,19 @@
+-- The digit, or 0 before the first. Assumes nothing.
+use mathlib.Core.Path.{refl}
+use native.Mathlib.Omega.{arith}
 use borrow.Author.Needs.{needs}
+use borrow.Author.Tests.{lt-ltb, le-ltb}
+use Rattle.arguments.specs.Arguments.{digitFromLast}
 use Rattle.arguments.proofs.fields.digit_from_last.Statement.{statement}
 use Rattle.arguments.proofs.fields.digit_from_last.Tie as tie
-use Rattle.arguments.proofs.fields.digit_from_last.Reads as reads
-use Rattle.arguments.proofs.fields.digit_from_last.Lts as lts
-use Rattle.arguments.proofs.numbers.digit_value.Reads as digit-value-reads
-
-digit-value-requires : tie.Need-digit-value-requires
-digit-value-requires c κs = search needs
 
 returns : tie.Need-returns
-returns c = ?
+unfolding digitFromLast
+returns c = rw (lt-ltb _ _ (c .before .before .if1 .taken), c .digit-value .ensures) (refl, omega arith)
 
 returns-2 : tie.Need-returns-2
-returns-2 c = ?
+unfolding digitFromLast
+returns-2 c = rw (le-ltb _ _ (c .if1 .left)) (refl, omega arith)
 
 pub digit-from-last-spec : {M : Type 1} → statement M
 digit-from-last-spec =
@@ -21,6 +22,6 @@ digit-from-last-spec =
     (λ c. search needs)
     (λ c. search needs)
     (λ c. search needs)
-    digit-value-requires
+    (λ c κs. tt)
     returns
     returns-2)

@@ -1,62 +1,44 @@
+-- From the last byte: what is laid stands at the right end. Assumes nothing.
+use Prim.Native.Nat.{suc, _+_, _-_, _≤_}
+use mathlib.Core.Path.{_≡_, refl}
+use native.Mathlib.Numerals.{add-one}
+use native.Mathlib.Omega.{arith}
+use lib.ListN.{length, drop, length-set}
+use lib.Seq.{drop-length}
+use borrow.Author.Needs.{needs}
+use Rattle.arguments.specs.Arguments.{laid}
+use Rattle.arguments.proofs.Laws.{lay-step}
 use Rattle.arguments.proofs.fields.lay.Statement.{statement}
 use Rattle.arguments.proofs.fields.lay.Tie as tie
-use Rattle.arguments.proofs.fields.lay.Reads as reads
-use Rattle.arguments.proofs.fields.lay.Lts as lts
-use Rattle.arguments.proofs.fields.digit_from_last.Reads as digit-from-last-reads
 
 abbrev Inv-loop : tie.InvT-loop
-Inv-loop text field₀ k₀ field k = ?
+Inv-loop text field₀ k₀ field k = (k ≤ length field₀) × (length field ≡ length field₀) × (drop (length field₀ - k) field ≡ laid k text)
 
 abbrev μ-loop : tie.MeasureT-loop
-μ-loop text field₀ k₀ field k = ?
+μ-loop text field₀ k₀ field k = length field₀ - k
 
 loop-holds : tie.Need-loop-holds Inv-loop μ-loop
-loop-holds c = ?
-
-sub-at : tie.Need-sub-at Inv-loop μ-loop
-sub-at c = ?
-
-sub-at-2 : tie.Need-sub-at-2 Inv-loop μ-loop
-sub-at-2 c = ?
-
-mul-digit-from-last : tie.Need-mul-digit-from-last Inv-loop μ-loop
-mul-digit-from-last c = ?
-
-add-digit-from-last : tie.Need-add-digit-from-last Inv-loop μ-loop
-add-digit-from-last c = ?
-
-digit-from-last-requires : tie.Need-digit-from-last-requires Inv-loop μ-loop
-digit-from-last-requires c κs = ?
-
-mul-field : tie.Need-mul-field Inv-loop μ-loop
-mul-field c = ?
-
-mul-digit-from-last-2 : tie.Need-mul-digit-from-last-2 Inv-loop μ-loop
-mul-digit-from-last-2 c = ?
-
-digit-from-last-requires-2 : tie.Need-digit-from-last-requires-2 Inv-loop μ-loop
-digit-from-last-requires-2 c κs = ?
-
-add-field : tie.Need-add-field Inv-loop μ-loop
-add-field c = ?
-
-slice-write-field : tie.Need-slice-write-field Inv-loop μ-loop
-slice-write-field c = ?
-
-add-k : tie.Need-add-k Inv-loop μ-loop
-add-k c = ?
-
-loop-less : tie.Need-loop-less Inv-loop μ-loop
-loop-less c = ?
+loop-holds c =
+    let field = c .before .before .args .field .now in
+    let z : length field - 0 ≡ length field = omega arith in
+    (search needs, refl, rw z (drop-length field))
 
 loop-again : tie.Need-loop-again Inv-loop μ-loop
-loop-again c = ?
-
-same-length : tie.Need-same-length Inv-loop μ-loop
-same-length c = ?
+loop-again c =
+    let l = c .before .before .before .loop in
+    let a = c .before .before .before .before .before .before .args in
+    let at = length (l .field) - 1 - l .k in
+    let z : length (a .field .now) - (l .k + 1) ≡ at = omega arith in
+    let y : suc at ≡ length (a .field .now) - l .k = omega arith in
+    (search needs, simp length-set (l .inv .1), rw (z, add-one) (lay-step (a .text .now) (l .field) at (l .k) _ (omega arith) (rw y (l .inv .2)) (rw (c .before .digit-from-last .ensures .0, c .digit-from-last2 .ensures .0))))
 
 returns : tie.Need-returns Inv-loop μ-loop
-returns c = ?
+returns c =
+    let l = c .before .loop in
+    let n = length (c .before .before .before .before .args .field .now) in
+    let z : n - l .k ≡ 0 = omega arith in
+    let e : l .k ≡ n = omega arith in
+    rw (z, e) at (l .inv .2)
 
 pub lay-spec : {M : Type 1} → statement M
 lay-spec =
@@ -65,18 +47,18 @@ lay-spec =
     Inv-loop
     μ-loop
     loop-holds
-    sub-at
-    sub-at-2
-    mul-digit-from-last
-    add-digit-from-last
-    digit-from-last-requires
-    mul-field
-    mul-digit-from-last-2
-    digit-from-last-requires-2
-    add-field
-    slice-write-field
-    add-k
-    loop-less
+    (λ c. search needs)
+    (λ c. search needs)
+    (λ c. search needs)
+    (λ c. search needs)
+    (λ c κs. tt)
+    (λ c. search needs)
+    (λ c. search needs)
+    (λ c κs. tt)
+    (λ c. search needs)
+    (λ c. search needs)
+    (λ c. search needs)
+    (λ c. search needs)
     loop-again
-    same-length
+    (λ c. search needs)
     returns)

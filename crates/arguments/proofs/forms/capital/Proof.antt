@@ -1,21 +1,21 @@
-use borrow.Author.Needs.{needs}
+-- A small letter, or any other character. Assumes nothing.
+use mathlib.Core.Path.{sym, _∙_}
+use native.Mathlib.Omega.{arith}
+use Rattle.arguments.specs.Arguments.{capitalOf}
+use Rattle.arguments.proofs.Laws.{inside}
 use Rattle.arguments.proofs.forms.capital.Statement.{statement}
 use Rattle.arguments.proofs.forms.capital.Tie as tie
-use Rattle.arguments.proofs.forms.capital.Reads as reads
-use Rattle.arguments.proofs.forms.capital.Lts as lts
-use Rattle.arguments.proofs.numbers.between.Reads as between-reads
-
-between-requires : tie.Need-between-requires
-between-requires c κs = search needs
 
 sub-result : tie.Need-sub-result
-sub-result c = ?
+sub-result c = omega (arith, inside 97 122 (c .before .before .args .c) (sym (c .before .between .ensures) ∙ c .if1 .taken))
 
 returns : tie.Need-returns
-returns c = ?
+unfolding capitalOf
+returns c = rw (sym (c .before .between .ensures) ∙ c .if1 .taken)
 
 returns-2 : tie.Need-returns-2
-returns-2 c = ?
+unfolding capitalOf
+returns-2 c = rw (sym (c .before .between .ensures) ∙ c .if1 .left)
 
 pub capital-spec : {M : Type 1} → statement M
-capital-spec = tie.close (tie.spec between-requires sub-result returns returns-2)
+capital-spec = tie.close (tie.spec (λ c κs. tt) sub-result returns returns-2)

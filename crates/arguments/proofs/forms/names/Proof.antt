@@ -1,45 +1,39 @@
+-- The letters still to compare, against all. Assumes nothing.
+use Prim.Native.Nat.{_-_, _≤_}
+use mathlib.Core.Path.{_≡_, refl, sym, ap, _∙_}
+use native.Mathlib.Omega.{arith}
+use lib.ListN.{length, drop}
+use borrow.Author.Needs.{needs}
+use Rattle.arguments.specs.Arguments.{capitalOf, names}
+use Rattle.arguments.proofs.Laws.{letter-wrong, letter-right, name-end}
 use Rattle.arguments.proofs.forms.names.Statement.{statement}
 use Rattle.arguments.proofs.forms.names.Tie as tie
-use Rattle.arguments.proofs.forms.names.Reads as reads
-use Rattle.arguments.proofs.forms.names.Lts as lts
-use Rattle.arguments.proofs.forms.capital.Reads as capital-reads
-use Rattle.digits.proofs.byte_at.Reads as byte-at-reads
 
 abbrev Inv-loop : tie.InvT-loop
-Inv-loop name text i₀ i = ?
+Inv-loop name text i₀ i = (i ≤ length name) × (names (drop i name) (drop i text) ≡ names name text)
 
 abbrev μ-loop : tie.MeasureT-loop
-μ-loop name text i₀ i = ?
-
-loop-holds : tie.Need-loop-holds Inv-loop μ-loop
-loop-holds c = ?
-
-byte-at-requires : tie.Need-byte-at-requires Inv-loop μ-loop
-byte-at-requires c κs = ?
-
-capital-requires : tie.Need-capital-requires Inv-loop μ-loop
-capital-requires c κs = ?
-
-shared-slice-read-if1 : tie.Need-shared-slice-read-if1 Inv-loop μ-loop
-shared-slice-read-if1 c = ?
+μ-loop name text i₀ i = length name - i
 
 returns : tie.Need-returns Inv-loop μ-loop
-returns c = ?
-
-add-i : tie.Need-add-i Inv-loop μ-loop
-add-i c = ?
-
-loop-less : tie.Need-loop-less Inv-loop μ-loop
-loop-less c = ?
+returns c =
+    let l = c .before .before .before .before .before .loop in
+    let a = c .before .before .before .before .before .before .before .before .args in
+    let same = c .before .before .capital .ensures ∙ ap capitalOf (c .before .before .before .byte-at .ensures) in
+    sym (letter-wrong (a .name .now) (a .text .now) (l .i) (omega arith) (λ e. c .if1 .taken (same ∙ e))) ∙ l .inv .1
 
 loop-again : tie.Need-loop-again Inv-loop μ-loop
-loop-again c = ?
-
-byte-at-requires-2 : tie.Need-byte-at-requires-2 Inv-loop μ-loop
-byte-at-requires-2 c κs = ?
+loop-again c =
+    let l = c .before .before .before .before .before .loop in
+    let a = c .before .before .before .before .before .before .before .before .args in
+    let same = c .before .before .capital .ensures ∙ ap capitalOf (c .before .before .before .byte-at .ensures) in
+    (search needs, letter-right (a .name .now) (a .text .now) (l .i) (omega arith) (sym same ∙ c .if1 .left) ∙ l .inv .1)
 
 returns-2 : tie.Need-returns-2 Inv-loop μ-loop
-returns-2 c = ?
+returns-2 c =
+    let l = c .before .before .loop in
+    let a = c .before .before .before .before .before .args in
+    rw (c .byte-at2 .ensures) (sym (name-end (a .name .now) (a .text .now) (l .i) (omega arith)) ∙ l .inv .1)
 
 pub names-spec : {M : Type 1} → statement M
 names-spec =
@@ -47,13 +41,13 @@ names-spec =
     (tie.spec
     Inv-loop
     μ-loop
-    loop-holds
-    byte-at-requires
-    capital-requires
-    shared-slice-read-if1
+    (λ c. (search needs, refl))
+    (λ c κs. tt)
+    (λ c κs. tt)
+    (λ c. search needs)
     returns
-    add-i
-    loop-less
+    (λ c. search needs)
+    (λ c. search needs)
     loop-again
-    byte-at-requires-2
+    (λ c κs. tt)
     returns-2)

@@ -1,34 +1,37 @@
+-- What is left to look through, against all. Assumes nothing.
+use Prim.Native.Nat.{_+_, _-_, _≤_}
+use mathlib.Core.Path.{_≡_}
+use native.Mathlib.Omega.{arith}
+use lib.ListN.{length, drop}
+use borrow.Author.Needs.{needs}
+use Rattle.arguments.specs.Arguments.{placeIn}
+use Rattle.arguments.proofs.Laws.{place-here, place-later, place-none}
 use Rattle.arguments.proofs.forms.place_in.Statement.{statement}
 use Rattle.arguments.proofs.forms.place_in.Tie as tie
-use Rattle.arguments.proofs.forms.place_in.Reads as reads
-use Rattle.arguments.proofs.forms.place_in.Lts as lts
 
 abbrev Inv-loop : tie.InvT-loop
-Inv-loop c list i₀ i = ?
+Inv-loop c list i₀ i = (i ≤ length list) × (i + placeIn c (drop i list) ≡ placeIn c list)
 
 abbrev μ-loop : tie.MeasureT-loop
-μ-loop c list i₀ i = ?
-
-loop-holds : tie.Need-loop-holds Inv-loop μ-loop
-loop-holds c = ?
-
-shared-slice-read-if1 : tie.Need-shared-slice-read-if1 Inv-loop μ-loop
-shared-slice-read-if1 c = ?
+μ-loop c list i₀ i = length list - i
 
 returns : tie.Need-returns Inv-loop μ-loop
-returns c = ?
-
-add-i : tie.Need-add-i Inv-loop μ-loop
-add-i c = ?
-
-loop-less : tie.Need-loop-less Inv-loop μ-loop
-loop-less c = ?
+returns c =
+    let l = c .before .before .before .loop in
+    let a = c .before .before .before .before .args in
+    (omega (arith, place-here (a .c) (l .i) (a .list .now) (omega arith) (c .if1 .taken)), search needs)
 
 loop-again : tie.Need-loop-again Inv-loop μ-loop
-loop-again c = ?
+loop-again c =
+    let l = c .before .before .before .loop in
+    let a = c .before .before .before .before .args in
+    (search needs, omega (arith, place-later (a .c) (l .i) (a .list .now) (omega arith) (c .if1 .left)))
 
 returns-2 : tie.Need-returns-2 Inv-loop μ-loop
-returns-2 c = ?
+returns-2 c =
+    let l = c .before .loop in
+    let a = c .before .before .args in
+    (omega (arith, place-none (a .c) (l .i) (a .list .now) (omega arith)), search needs)
 
 pub place-in-spec : {M : Type 1} → statement M
 place-in-spec =
@@ -36,10 +39,10 @@ place-in-spec =
     (tie.spec
     Inv-loop
     μ-loop
-    loop-holds
-    shared-slice-read-if1
+    (λ c. (search needs, search needs))
+    (λ c. search needs)
     returns
-    add-i
-    loop-less
+    (λ c. search needs)
+    (λ c. search needs)
     loop-again
     returns-2)

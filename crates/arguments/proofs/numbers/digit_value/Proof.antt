@@ -1,7 +1,6 @@
 -- By which digits the character is among. Assumes nothing.
 use native.Mathlib.Omega.{arith}
 use mathlib.Core.Path.{sym, _∙_}
-use borrow.Author.Needs.{needs}
 use Rattle.arguments.specs.Arguments.{digitValue}
 use Rattle.arguments.proofs.Laws.{inside}
 use Rattle.arguments.proofs.numbers.digit_value.Statement.{statement}

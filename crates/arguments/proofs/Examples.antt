@@ -1,0 +1,43 @@
+-- Arguments, and what they give. Assumes nothing.
+use mathlib.Core.Path.{_≡_, refl}
+use mathlib.Core.List.{[], _∷_}
+use Rattle.text.specs.Ascii.{ascii}
+use Rattle.arguments.specs.Arguments.{digitValue, numberOf, capitalOf, placeOf, byteForm, addressForm, limitForm, givenOf, digitFromLast, laid}
+use Rattle.arguments.specs.declared.Number.the-variants as N
+use Rattle.arguments.specs.declared.Given.the-variants as G
+
+a-million : numberOf (ascii "1000000") ≡ N.Is 1000000
+unfolding numberOf digitValue
+a-million = refl
+
+one-more : numberOf (ascii "1000001") ≡ N.Wrong
+unfolding numberOf digitValue
+one-more = refl
+
+register-u : givenOf (ascii "u=4F") ≡ G.Register 2 79
+unfolding givenOf byteForm placeOf capitalOf digitValue
+register-u = refl
+
+address : givenOf (ascii "WX=fff") ≡ G.Register 13 4095
+unfolding givenOf byteForm addressForm placeOf capitalOf digitValue
+address = refl
+
+from-10 : givenOf (ascii "From=10") ≡ G.From 10
+unfolding givenOf byteForm addressForm limitForm placeOf capitalOf digitValue
+from-10 = refl
+
+to-20 : givenOf (ascii "TO=20") ≡ G.To 20
+unfolding givenOf byteForm addressForm limitForm placeOf capitalOf digitValue
+to-20 = refl
+
+three-digits : givenOf (ascii "U=123") ≡ G.Wrong
+unfolding givenOf byteForm addressForm limitForm placeOf capitalOf digitValue
+three-digits = refl
+
+five-in-three : laid 3 (ascii "12345") ≡ 1 ∷ 35 ∷ 69 ∷ []
+unfolding digitFromLast digitValue
+five-in-three = refl
+
+five-in-two : laid 2 (ascii "12345") ≡ 35 ∷ 69 ∷ []
+unfolding digitFromLast digitValue
+five-in-two = refl

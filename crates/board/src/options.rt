@@ -1,0 +1,102 @@
+// What may follow a command's own arguments: registers, and which cycles are shown.
+use crate::tell;
+use arguments::Given;
+use machine::State;
+
+pub struct Options {
+    pub state: State,
+    pub from: u32,
+    pub to: u32,
+}
+
+pub enum Read {
+    Options(Options),
+    Wrong,
+}
+
+// All registers 0, all latches off, and every cycle shown.
+fn none() -> Options {
+    Options {
+        state: channels::loaded(&[0]),
+        from: 0,
+        to: 1000000,
+    }
+}
+
+// Marks a place, and tells whether it was marked before.
+fn marked(place: u8, seen: &mut [u8]) -> bool {
+    let i = place as usize;
+    if seen.len() <= i {
+        return true;
+    }
+    let before = seen[i];
+    seen[i] = 1;
+    before != 0
+}
+
+fn once(at: usize, place: u8, seen: &mut [u8], o: Options) -> Read {
+    if marked(place, seen) {
+        tell::wrong(at, b"was given before");
+        return Read::Wrong;
+    }
+    Read::Options(o)
+}
+
+fn wrong(at: usize, registers: bool) -> Read {
+    if registers {
+        tell::wrong(
+            at,
+            b"is neither a register and its value, as I=HH or WX=HHH, nor FROM=n nor TO=n",
+        );
+    } else {
+        tell::wrong(
+            at,
+            b"is neither FROM=n nor TO=n, nor 0 or 1 for a carry before them",
+        );
+    }
+    Read::Wrong
+}
+
+fn register(at: usize, o: Options, registers: bool, place: u8, value: u16, seen: &mut [u8]) -> Read {
+    if !registers {
+        return wrong(at, registers);
+    }
+    let state = arguments::with_register(o.state, place, value);
+    once(at, place, seen, Options { state: state, ..o })
+}
+
+// One argument more.
+fn option(at: usize, o: Options, registers: bool, seen: &mut [u8]) -> Read {
+    let mut text = [0u8; 16];
+    let n = os::arg(at, &mut text);
+    match arguments::given(&text[..n]) {
+        Given::Register(place, value) => register(at, o, registers, place, value, seen),
+        Given::From(cycle) => once(at, 14, seen, Options { from: cycle, ..o }),
+        Given::To(cycle) => once(at, 15, seen, Options { to: cycle, ..o }),
+        Given::Wrong => wrong(at, registers),
+    }
+}
+
+// All arguments from `first` on; a wrong one is told.
+pub fn options(first: usize, registers: bool) -> Read {
+    let count = os::arg_count();
+    let mut seen = [0u8; 16];
+    let mut o = none();
+    let mut at = first;
+    while at < count {
+        match option(at, o, registers, &mut seen) {
+            Read::Options(next) => {
+                o = next;
+            }
+            Read::Wrong => {
+                return Read::Wrong;
+            }
+        }
+        at += 1;
+    }
+    if o.to < o.from {
+        tell::line(b"FROM is over TO");
+        return Read::Wrong;
+    }
+    Read::Options(o)
+}

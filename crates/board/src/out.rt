@@ -1,0 +1,77 @@
+// Standard output, by way of a buffer.
+ghost use Prim.Native.Nat.{_≤_};
+ghost use lib.ListN.{length};
+use crate::tell;
+use libc::STDOUT_FILENO;
+use text::Written;
+
+// How many bytes of the buffer wait, and whether a write failed: that is told once, and nothing more is written.
+pub struct Out {
+    pub waiting: usize,
+    pub failed: bool,
+}
+
+pub fn new() -> Out {
+    Out {
+        waiting: 0,
+        failed: false,
+    }
+}
+
+fn written(bytes: &[u8]) -> bool {
+    if io::write_all(STDOUT_FILENO, bytes) {
+        return true;
+    }
+    tell::line(b"the output was not written");
+    false
+}
+
+// Writes what waits.
+pub fn flush(out: Out, room: &[u8]) -> Out
+    ensures { λ r. ⌜ r .waiting ≤ length (now (room .entry)) ⌝ }
+{
+    if out.failed | (room.len() < out.waiting) {
+        return Out { waiting: 0, ..out };
+    }
+    let fine = written(&room[0..out.waiting]);
+    Out {
+        waiting: 0,
+        failed: !fine,
+    }
+}
+
+// With room for the next text, the longest of which is the walk's 10,318 bytes.
+pub fn ready(out: Out, room: &[u8]) -> Out
+    ensures { λ r. ⌜ r .waiting ≤ length (now (room .entry)) ⌝ }
+{
+    if room.len() / 2 < out.waiting {
+        return flush(out, room);
+    }
+    out
+}
+
+// After a text was put where the next is to wait.
+pub fn put(out: Out, text: Written, room: &[u8]) -> Out {
+    let Written::Text(size) = text else {
+        tell::line(b"the output was not made");
+        return out;
+    };
+    if room.len() < out.waiting {
+        return out;
+    }
+    if room.len() - out.waiting < size {
+        return out;
+    }
+    Out {
+        waiting: out.waiting + size,
+        ..out
+    }
+}
+
+// Any text of a few bytes.
+pub fn text(out: Out, text: &[u8], room: &mut [u8]) -> Out {
+    let out = ready(out, room);
+    let end = room.len();
+    let put = text::put(text, &mut room[out.waiting..end]);
+    crate::out::put(out, put, room)
+}

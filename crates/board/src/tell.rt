@@ -1,0 +1,52 @@
+// What is told on standard error. A program has no exit status: the root command gives 1 where anything stands there.
+use libc::STDERR_FILENO;
+
+pub fn line(text: &[u8]) {
+    io::write_all(STDERR_FILENO, b"board: ");
+    io::write_all(STDERR_FILENO, text);
+    io::write_all(STDERR_FILENO, b"\n");
+}
+
+fn argument(at: usize) {
+    io::write_all(STDERR_FILENO, b"board: argument ");
+    io::print_decimal(STDERR_FILENO, at as u64);
+    io::write_all(STDERR_FILENO, b" ");
+}
+
+// Which argument is wrong, and how.
+pub fn wrong(at: usize, how: &[u8]) {
+    argument(at);
+    io::write_all(STDERR_FILENO, how);
+    io::write_all(STDERR_FILENO, b"\n");
+}
+
+// A deck that is refused.
+pub fn refused(at: usize, number: u8) {
+    argument(at);
+    io::write_all(STDERR_FILENO, b"is a deck refused by ");
+    io::print_decimal(STDERR_FILENO, number as u64);
+    let mut words = [b' '; 64];
+    text::words(number, &mut words);
+    io::write_all(STDERR_FILENO, b": ");
+    io::write_all(STDERR_FILENO, &words);
+    io::write_all(STDERR_FILENO, b"\n");
+}
+
+// There are as many arguments as a command asks, the command among them.
+pub fn enough(asked: usize) -> bool {
+    let count = os::arg_count();
+    if asked < count {
+        return true;
+    }
+    wrong(count, b"is missing; board help shows what is asked");
+    false
+}
+
+// And no more.
+pub fn no_more(asked: usize) -> bool {
+    if os::arg_count() <= asked {
+        return true;
+    }
+    wrong(asked, b"is one too many");
+    false
+}

@@ -1,0 +1,142 @@
+//! Programs in C and C++ that stand on include/panel.h and the library, compiled as a board's maker compiles them: with
+//! the kit's tools by examples/panel/build.sh, and plainly with gcc and g++ where they are on the path.
+
+#[path = "../../second/tests/common/mod.rs"]
+mod common;
+
+use programs::{file, folder, root, run, Said};
+use second::panel;
+use std::path::PathBuf;
+use std::process::Command;
+
+/// What examples/panel prints of the word P: one cycle of it from J 5D, and the record that it leaves.
+fn cycle_of_p() -> String {
+    let mut record = [0; 22];
+    record[1] = 0x5D;
+    let answer = panel::one_cycle(&[common::P], &mut [0; 256], &mut [0; 256], &mut record);
+    assert_eq!(answer, 0);
+    let names = "I J U V L T D R S G H M N WX_high WX_low AC 1BC Z0 allow_write local arriving arriving_byte";
+    let lines = names.split(' ').zip(record).map(|(name, byte)| format!("{:<13} {byte:02X}\n", name.replace('_', " ")));
+    format!("word {:016X}\nkind 0, refusal 0, field 0\n{}", common::P, lines.collect::<String>())
+}
+
+/// What it prints of the shipped words: the cycles that gate A to another byte, or correct their sum, and the sum.
+fn cycles_of_the_sum() -> String {
+    let (mut words, mut record, mut work) = ([0; 21], [0; 22], [0; 8]);
+    assert_eq!((panel::shipped(&mut words), panel::start(0x10, 0x20, 1, 1, &mut record)), (21, 0));
+    let (mut main, mut local) = ([0; 256], [0; 256]);
+    [main[0x10], main[0x20]] = [0x38, 0x47];
+    let mut text = String::new();
+    while panel::next_sum(&words, &record, &mut work) == 0 {
+        let [a, gated, .., before, after] = work;
+        if a != gated || before != after {
+            let at = u16::from_be_bytes([record[13], record[14]]);
+            text += &format!("word {at:03X}: A {a:02X}, crossed and gated {gated:02X}; ");
+            text += &format!("sum {before:02X}, corrected {after:02X}\n");
+        }
+        assert_eq!(panel::one_cycle(&words, &mut main, &mut local, &mut record), 0);
+    }
+    text + &format!("38 + 47 + 1 = {:02X}\n", main[0x10])
+}
+
+fn shows_the_example(said: &Said) {
+    assert_eq!((said.text(), said.status), (cycle_of_p() + &cycles_of_the_sum(), Some(0)), "{}", said.err);
+}
+
+#[test]
+fn the_example_is_built_and_run() {
+    shows_the_example(&run(Command::new("sh").arg(root().join("examples/panel/build.sh")), &[]));
+}
+
+/// Whether the command is on the path.
+fn there(compiler: &str) -> bool {
+    let found = Command::new(compiler).arg("--version").output().is_ok();
+    if !found {
+        eprintln!("no {compiler} on the path: not tried");
+    }
+    found
+}
+
+/// A compiler accepts it, with no warning.
+fn compiles(compiler: &str, arguments: &[&str]) {
+    let said = run(Command::new(compiler).args(["-Wall", "-Wextra", "-Werror"]).args(arguments), &[]);
+    assert!(said.well(), "{compiler} {arguments:?}: {}", said.err);
+}
+
+/// The header by itself, in a language and each of its standards.
+fn header_compiles(compiler: &str, language: &str, standards: &[&str]) {
+    let header = root().join("include/panel.h");
+    if !there(compiler) {
+        return;
+    }
+    let plain = ["-fsyntax-only", "-x", language, &header.to_string_lossy()];
+    compiles(compiler, &plain);
+    for standard in standards {
+        compiles(compiler, &[&["-pedantic", &format!("-std={standard}")], &plain[..]].concat());
+    }
+}
+
+#[test]
+fn the_header_compiles_as_c() {
+    header_compiles("gcc", "c", &["c99", "c11"]);
+}
+
+#[test]
+fn the_header_compiles_as_cpp() {
+    header_compiles("g++", "c++", &["c++98", "c++11", "c++17"]);
+}
+
+/// The library, as it is proved from the present files.
+fn library() -> PathBuf {
+    let library = root().join("target/staticlib/libpanel.a");
+    let mut command = Command::new(root().join("tools/proved"));
+    let said = run(command.arg(&library).args(["rt", "staticlib", "panel"]), &[]);
+    assert_eq!(said.status, Some(0), "{}", said.err);
+    library
+}
+
+/// The source with the header and the library, and nothing else on the command line: what the program then says.
+fn linked(compiler: &str, source: &str, name: &str) -> Option<Said> {
+    if std::env::consts::ARCH != "x86_64" || !there(compiler) {
+        return None;
+    }
+    let (include, program) = (root().join("include"), folder(name).join("program"));
+    let parts = [include, library(), program.clone()].map(|path| path.to_string_lossy().into_owned());
+    compiles(compiler, &[source, "-I", &parts[0], &parts[1], "-o", &parts[2]]);
+    Some(run(&mut Command::new(program), &[]))
+}
+
+#[test]
+fn gcc_links_the_example() {
+    let source = root().join("examples/panel/example.c");
+    if let Some(said) = linked("gcc", &source.to_string_lossy(), "gcc") {
+        shows_the_example(&said);
+    }
+}
+
+/// Every function once, from C++, and what each answers. All but the last two refuse.
+const ALL: &str = "#include <panel.h>
+#include <cstdio>
+int main() {
+    uint64_t words[21] = {};
+    uint8_t bytes[18] = {}, main[1] = {}, local[1] = {}, state[PANEL_STATE] = {}, work[PANEL_WORK] = {};
+    std::printf(\"%u \", panel_take_apart(0, 0, bytes, 17));
+    std::printf(\"%u \", panel_pack(bytes, 17, 0, words, 1));
+    std::printf(\"%u \", panel_cycle(words, 21, main, 1, local, 1, state, PANEL_STATE) / 256);
+    std::printf(\"%u \", unsigned(panel_run(words, 21, main, 1, local, 1, state, PANEL_STATE - 1, 1) / 256));
+    std::printf(\"%u \", panel_next_sum(words, 21, state, PANEL_STATE, work, PANEL_WORK));
+    std::printf(\"%u \", unsigned(panel_add_decimal(main, 1, local, 1, 0, 0, 1, 0) / 256));
+    std::printf(\"%u \", panel_read_deck(bytes, 0, words, 1) / 65536);
+    std::printf(\"%u \", panel_write_deck(words, 0, bytes, 1) / 65536);
+    std::printf(\"%u \", panel_start(0, 0, 1, 0, state, PANEL_STATE));
+    std::printf(\"%u\\n\", panel_shipped(words, 21));
+}
+";
+
+#[test]
+fn gpp_links_every_function() {
+    let source = file(&folder("gpp_source"), "all.cpp", ALL.as_bytes());
+    if let Some(said) = linked("g++", &source, "gpp") {
+        assert_eq!((said.text().as_str(), said.status), ("19 19 1 19 1 1 15 21 0 21\n", Some(0)), "{}", said.err);
+    }
+}
