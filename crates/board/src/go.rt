@@ -40,52 +40,60 @@ fn show(view: View, cycle: u32, at: u16, s: State, sum: NextSum, out: Out, room:
         return out;
     };
     let out = out::ready(out, room);
+    let from = out.waiting;
     let end = room.len();
-    let text = if view.lamps {
-        lamps::picture(cycle, at, s, w, &mut room[out.waiting..end])
-    } else {
-        lamps::line(cycle, at, s, w, &mut room[out.waiting..end])
-    };
+    if view.lamps {
+        let text = lamps::picture(cycle, at, s, w, &mut room[from..end]);
+        return out::put(out, text, room);
+    }
+    let text = lamps::line(cycle, at, s, w, &mut room[from..end]);
     out::put(out, text, room)
 }
 
-// The names of the columns, and the state before the first cycle, which counts as cycle 0.
-pub fn begin(view: View, s: State, room: &mut [u8]) -> Out {
+// The names of the columns.
+fn heading(view: View, room: &mut [u8]) -> Out {
+    if view.lamps {
+        return out::new();
+    }
+    let text = lamps::header(room);
+    out::put(out::new(), text, room)
+}
+
+fn show_start(view: View, s: State, out: Out, room: &mut [u8]) -> Out {
+    let out = out::ready(out, room);
+    let from = out.waiting;
     let end = room.len();
-    let out = out::new();
-    let out = if view.lamps {
-        out
-    } else {
-        out::put(out, lamps::header(&mut room[0..end]), room)
-    };
+    if view.lamps {
+        let text = lamps::start_picture(s, &mut room[from..end]);
+        return out::put(out, text, room);
+    }
+    let text = lamps::start(s, &mut room[from..end]);
+    out::put(out, text, room)
+}
+
+// What stands before the cycles: the state then counts as cycle 0.
+pub fn begin(view: View, s: State, room: &mut [u8]) -> Out {
+    let out = heading(view, room);
     if !shown(view, 0) {
         return out;
     }
-    let out = out::ready(out, room);
-    let text = if view.lamps {
-        lamps::start_picture(s, &mut room[out.waiting..end])
-    } else {
-        lamps::start(s, &mut room[out.waiting..end])
-    };
-    out::put(out, text, room)
+    show_start(view, s, out, room)
 }
 
 // How the run ended. A refusal is told on standard error too.
 pub fn end(finished: Finished, out: Out, room: &mut [u8]) -> Out {
-    if let Ending::Refused(_, _) = finished.ending {
+    let ending = finished.ending;
+    if let Ending::Refused(_, _) = ending {
         tell::line(b"the run was refused");
     }
     let out = out::ready(out, room);
+    let from = out.waiting;
     let end = room.len();
-    let text = lamps::ending(
-        finished.ending,
-        finished.state.wx,
-        &mut room[out.waiting..end],
-    );
+    let text = lamps::ending(ending, finished.state.wx, &mut room[from..end]);
     out::put(out, text, room)
 }
 
-fn went(ending: Ending, state: State, count: u32, out: Out) -> Went
+fn ended(ending: Ending, state: State, count: u32, out: Out) -> Went
     ensures { λ r. ⌜ r .finished ≡ record { ending = ending; state = state; count = count } ⌝ }
 {
     Went {
@@ -115,7 +123,7 @@ fn cycles(
     let mut out = first;
     loop {
         if done == budget {
-            break went(Ending::Spent, now, done, out);
+            break ended(Ending::Spent, now, done, out);
         }
         let sum = work(view, done + 1, store, now);
         match machine::cycle(store, main, local, now) {
@@ -125,10 +133,10 @@ fn cycles(
                 now = next;
             }
             Cycled::Stopped(last) => {
-                break went(Ending::Stopped, last, done, out);
+                break ended(Ending::Stopped, last, done, out);
             }
             Cycled::Refused(last, number, field) => {
-                break went(Ending::Refused(number, field), last, done, out);
+                break ended(Ending::Refused(number, field), last, done, out);
             }
         }
     }
@@ -149,7 +157,7 @@ pub fn go(
 {
     let number = run::refusal(store.len(), main.len(), local.len(), budget);
     if number != 0 {
-        return went(Ending::Refused(number, 0), state, 0, out);
+        return ended(Ending::Refused(number, 0), state, 0, out);
     }
     cycles(view, store, main, local, state, budget, out, room)
 }

@@ -3,7 +3,7 @@ mod add;
 mod go;
 mod options;
 mod out;
-mod run;
+mod runs;
 mod tell;
 
 use libc::STDOUT_FILENO;
@@ -56,7 +56,7 @@ fn is_help(word: &[u8]) -> bool {
     check::same(word, b"help") | (check::same(word, b"-h") | check::same(word, b"--help"))
 }
 
-fn command(word: &[u8]) -> Command {
+fn named(word: &[u8]) -> Command {
     if check::same(word, b"add") {
         return Command::Add;
     }
@@ -78,16 +78,16 @@ fn command(word: &[u8]) -> Command {
 fn command_at(at: usize) -> Command {
     let mut word = [0u8; 16];
     let n = os::arg(at, &mut word);
-    command(&word[..n])
+    named(&word[..n])
 }
 
-fn lamps() {
+fn as_lamps() {
     if !tell::enough(2) {
         return;
     }
     match command_at(2) {
         Command::Add => add::add(true),
-        Command::Run => run::run(true),
+        Command::Run => runs::run(true),
         _ => tell::wrong(2, b"is neither add nor run"),
     }
 }
@@ -99,8 +99,8 @@ fn main() {
     }
     match command_at(1) {
         Command::Add => add::add(false),
-        Command::Run => run::run(false),
-        Command::Lamps => lamps(),
+        Command::Run => runs::run(false),
+        Command::Lamps => as_lamps(),
         Command::Walk => walk(),
         Command::Help => help(),
         Command::Other => tell::wrong(1, b"is neither add, run, lamps, walk nor help"),

@@ -9,7 +9,7 @@ pub struct Options {
     pub to: u32,
 }
 
-pub enum Read {
+pub enum Asked {
     Options(Options),
     Wrong,
 }
@@ -34,15 +34,15 @@ fn marked(place: u8, seen: &mut [u8]) -> bool {
     before != 0
 }
 
-fn once(at: usize, place: u8, seen: &mut [u8], o: Options) -> Read {
+fn once(at: usize, place: u8, seen: &mut [u8], o: Options) -> Asked {
     if marked(place, seen) {
         tell::wrong(at, b"was given before");
-        return Read::Wrong;
+        return Asked::Wrong;
     }
-    Read::Options(o)
+    Asked::Options(o)
 }
 
-fn wrong(at: usize, registers: bool) -> Read {
+fn wrong(at: usize, registers: bool) -> Asked {
     if registers {
         tell::wrong(
             at,
@@ -54,10 +54,10 @@ fn wrong(at: usize, registers: bool) -> Read {
             b"is neither FROM=n nor TO=n, nor 0 or 1 for a carry before them",
         );
     }
-    Read::Wrong
+    Asked::Wrong
 }
 
-fn register(at: usize, o: Options, registers: bool, place: u8, value: u16, seen: &mut [u8]) -> Read {
+fn register(at: usize, o: Options, registers: bool, place: u8, value: u16, seen: &mut [u8]) -> Asked {
     if !registers {
         return wrong(at, registers);
     }
@@ -66,10 +66,10 @@ fn register(at: usize, o: Options, registers: bool, place: u8, value: u16, seen:
 }
 
 // One argument more.
-fn option(at: usize, o: Options, registers: bool, seen: &mut [u8]) -> Read {
+fn option(at: usize, o: Options, registers: bool, seen: &mut [u8]) -> Asked {
     let mut text = [0u8; 16];
     let n = os::arg(at, &mut text);
-    match arguments::given(&text[..n]) {
+    match arguments::given_of(&text[..n]) {
         Given::Register(place, value) => register(at, o, registers, place, value, seen),
         Given::From(cycle) => once(at, 14, seen, Options { from: cycle, ..o }),
         Given::To(cycle) => once(at, 15, seen, Options { to: cycle, ..o }),
@@ -78,25 +78,25 @@ fn option(at: usize, o: Options, registers: bool, seen: &mut [u8]) -> Read {
 }
 
 // All arguments from `first` on; a wrong one is told.
-pub fn options(first: usize, registers: bool) -> Read {
+pub fn read(first: usize, registers: bool) -> Asked {
     let count = os::arg_count();
     let mut seen = [0u8; 16];
     let mut o = none();
     let mut at = first;
     while at < count {
         match option(at, o, registers, &mut seen) {
-            Read::Options(next) => {
+            Asked::Options(next) => {
                 o = next;
             }
-            Read::Wrong => {
-                return Read::Wrong;
+            Asked::Wrong => {
+                return Asked::Wrong;
             }
         }
         at += 1;
     }
     if o.to < o.from {
         tell::line(b"FROM is over TO");
-        return Read::Wrong;
+        return Asked::Wrong;
     }
-    Read::Options(o)
+    Asked::Options(o)
 }

@@ -30,10 +30,14 @@ fn written(bytes: &[u8]) -> bool {
 pub fn flush(out: Out, room: &[u8]) -> Out
     ensures { λ r. ⌜ r .waiting ≤ length (now (room .entry)) ⌝ }
 {
-    if out.failed | (room.len() < out.waiting) {
+    let end = out.waiting;
+    if out.failed {
         return Out { waiting: 0, ..out };
     }
-    let fine = written(&room[0..out.waiting]);
+    if room.len() < end {
+        return Out { waiting: 0, ..out };
+    }
+    let fine = written(&room[0..end]);
     Out {
         waiting: 0,
         failed: !fine,
@@ -71,7 +75,8 @@ pub fn put(out: Out, text: Written, room: &[u8]) -> Out {
 // Any text of a few bytes.
 pub fn text(out: Out, text: &[u8], room: &mut [u8]) -> Out {
     let out = ready(out, room);
+    let from = out.waiting;
     let end = room.len();
-    let put = text::put(text, &mut room[out.waiting..end]);
-    crate::out::put(out, put, room)
+    let text = text::put(text, &mut room[from..end]);
+    put(out, text, room)
 }

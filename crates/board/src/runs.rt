@@ -1,35 +1,44 @@
 // board run: a deck over a storage image, from registers that the command line gives.
 ghost use Prim.Native.Nat.{_≤_};
+ghost use lib.ListN.{length};
+ghost use Rattle.input.specs.Inside.{Inside};
 use crate::go;
 use crate::go::View;
 use crate::options;
-use crate::options::Read;
+use crate::options::Asked;
 use crate::out;
 use crate::tell;
 use arguments::Number;
 use deck::Reading;
 use input::Input;
 
+fn read_from(fd: i32, room: &mut [u8]) -> Input
+    ensures { λ r. ⌜ Inside r (length (now (room .exit))) ⌝ }
+{
+    if fd < 0 {
+        return Input::Failed;
+    }
+    let read = input::read(fd, room);
+    libc::close(fd);
+    read
+}
+
 // Reads the file that an argument names into the room, or tells that it cannot be read.
-fn read_file(at: usize, room: &mut [u8]) -> Input {
+fn read_file(at: usize, room: &mut [u8]) -> Input
+    ensures { λ r. ⌜ Inside r (length (now (room .exit))) ⌝ }
+{
     let mut path = io::buffer();
     let n = os::arg(at, &mut path);
-    let fd = os::open_read(&path[..n]);
-    let read = if fd < 0 {
-        Input::Failed
-    } else {
-        input::read(fd, room)
-    };
+    let read = read_from(os::open_read(&path[..n]), room);
     if let Input::Failed = read {
         tell::wrong(at, b"cannot be read");
     }
-    libc::close(fd);
     read
 }
 
 // All that a run asks is there: the words, the image and the budget.
 fn over(lamps: bool, words: &[u64], main: &mut [u8], budget: u32, first: usize) {
-    let Read::Options(o) = options::options(first, true) else {
+    let Asked::Options(o) = options::read(first, true) else {
         return;
     };
     let view = View {
@@ -48,7 +57,7 @@ fn over(lamps: bool, words: &[u64], main: &mut [u8], budget: u32, first: usize) 
 fn budget(at: usize) -> Number {
     let mut text = [0u8; 16];
     let n = os::arg(at, &mut text);
-    let number = arguments::number(&text[..n]);
+    let number = arguments::number_of(&text[..n]);
     if let Number::Wrong = number {
         tell::wrong(at, b"is not a number of cycles up to 1000000");
     }
