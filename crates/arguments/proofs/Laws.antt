@@ -1,12 +1,12 @@
 -- The laws of digits and of what they write. Assumes nothing.
-use Prim.Native.Nat.{ℕ, suc, _+_, _*_, _^_, _<_, _≤_}
+use Prim.Native.Nat.{ℕ, zero, suc, _+_, _*_, _^_, _<_, _≤_}
 use mathlib.Core.Path.{_≡_, refl, sym, _∙_}
 use mathlib.Core.Bool.{Bool, true, false, _&&_}
 use mathlib.Core.List.{List}
 use native.Mathlib.Nat.{add-zero, mul-le-mul-left}
 use native.Mathlib.Numerals.{add-one}
 use native.Mathlib.Omega.{arith}
-use borrow.Author.Tests.{leb-true, lt-ltb, le-ltb, eq-eqb, ne-eqb}
+use borrow.Author.Tests.{leb-true, ltb-true, lt-ltb, le-ltb, eq-eqb, ne-eqb}
 use lib.Dec.{eqb, ltb, leb}
 use lib.ListN.{length, getD, drop, set, length-set, drop-of-length-le}
 use lib.Pow.{pow-add, pow-mono}
@@ -57,6 +57,9 @@ value-fits base n i h k e =
 pub fit-short : (base most : ℕ) (text : List ℕ) → digitsFit base most text ≡ true → length text ≤ most
 fit-short base most text t =
     leb-true (length text) most (both (leb (length text) most) (allDigits base text) (both (ltb 0 (length text)) (leb (length text) most && allDigits base text) t .1) .0)
+
+pub fit-some : (base most : ℕ) (text : List ℕ) → digitsFit base most text ≡ true → 0 < length text
+fit-some base most text t = ltb-true 0 (length text) (both (ltb 0 (length text)) (leb (length text) most && allDigits base text) t .0)
 
 pub number-short : (text : List ℕ) → numberFits text ≡ true → length text ≤ 7
 number-short text t = fit-short 10 7 text (both (digitsFit 10 7 text) (leb (valueFrom 10 0 text) 1000000) t .0)
@@ -135,3 +138,7 @@ pub lay-step : (text field : List ℕ) (at k x : ℕ) → at < length field → 
 lay-step text field at k x h e p =
     let l : at < length (set field at x) = rw length-set h in
     rw (drop-cons (set field at x) at 0 l, getD-set-same field at x 0 h, drop-set-lt (suc at) field at x (omega arith), e, p)
+
+pub length-laid : (n : ℕ) (text : List ℕ) → length (laid n text) ≡ n
+length-laid zero text = refl
+length-laid (suc k) text = omega (arith, length-laid k text)

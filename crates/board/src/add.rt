@@ -176,7 +176,7 @@ fn with_numbers(lamps: bool, first: &[u8], second: &[u8], at: usize)
 
 // Two numbers, perhaps a carry, and options.
 pub fn add(lamps: bool) {
-    let at: usize = if lamps { 3 } else { 2 };
+    let at = options::first_at(lamps);
     if !tell::enough(at + 1) {
         return;
     }

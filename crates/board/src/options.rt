@@ -1,4 +1,5 @@
 // What may follow a command's own arguments: registers, and which cycles are shown.
+ghost use Prim.Native.Nat.{_≤_};
 use crate::tell;
 use arguments::Given;
 use machine::State;
@@ -12,6 +13,13 @@ pub struct Options {
 pub enum Asked {
     Options(Options),
     Wrong,
+}
+
+// The place of a command's first argument.
+pub fn first_at(lamps: bool) -> usize
+    ensures { λ r. ⌜ r ≤ 3 ⌝ }
+{
+    if lamps { 3 } else { 2 }
 }
 
 // All registers 0, all latches off, and every cycle shown.

@@ -102,7 +102,7 @@ fn with_deck(lamps: bool, deck: &[u8], words: &mut [u64], at: usize)
 
 // A deck, an image, a number of cycles, and options. A longer deck fills the room, and is refused.
 pub fn run(lamps: bool) {
-    let at: usize = if lamps { 3 } else { 2 };
+    let at = options::first_at(lamps);
     if !tell::enough(at + 2) {
         return;
     }

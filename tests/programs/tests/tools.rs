@@ -3,9 +3,10 @@
 
 use programs::{folder, root, run, Said};
 use std::fs;
+use std::io::{BufRead, BufReader};
 use std::os::unix::fs::{symlink, PermissionsExt};
 use std::path::{Path, PathBuf};
-use std::process::Command;
+use std::process::{Command, Stdio};
 
 /// A repository of one crate, with the tools and the lister's root command of this one, and a kit beside it.
 struct Bench {
@@ -51,18 +52,32 @@ impl Bench {
         fs::remove_file(self.here.join(name)).expect(name);
     }
 
-    fn lister_at(&self, command: &Path, kit: bool) -> Said {
+    fn command_at(&self, command: &Path, kit: bool) -> Command {
         let path = std::env::var("PATH").expect("a path");
         let others = path.split(':').filter(|folder| !Path::new(folder).join("rt").exists());
         let mut folders: Vec<String> = others.map(str::to_owned).collect();
         if kit {
             folders.insert(0, self.here.join("kit").to_string_lossy().into_owned());
         }
-        run(Command::new(command).arg("x").env("PATH", folders.join(":")), &[])
+        let mut command = Command::new(command);
+        command.arg("x").env("PATH", folders.join(":"));
+        command
+    }
+
+    fn lister_at(&self, command: &Path, kit: bool) -> Said {
+        run(&mut self.command_at(command, kit), &[])
     }
 
     fn lister(&self, kit: bool) -> Said {
         self.lister_at(&self.here.join("lister"), kit)
+    }
+
+    /// A repository whose program, once proved, says `first`, and then does this.
+    fn doing(name: &str, script: &str) -> Bench {
+        let bench = Bench::new(name);
+        bench.write("crates/deck/file", &format!("first; {script} #"));
+        run(&mut bench.command_at(&bench.here.join("lister"), true), &[]);
+        bench
     }
 
     /// How often the kit was asked.
@@ -138,4 +153,81 @@ fn a_link_to_a_root_command_works() {
     symlink("../lister", bench.here.join("far/l")).expect("a link");
     symlink("l", bench.here.join("far/l2")).expect("a link");
     ran(&bench.lister_at(&bench.here.join("far/l2"), false), "first x\n");
+}
+
+/// What a root command says and ends with, once its program is proved.
+fn ends(name: &str, script: &str, err: &str, status: i32) {
+    let said = Bench::doing(name, script).lister(false);
+    assert_eq!((said.text().as_str(), said.err.as_str(), said.status), ("first\n", err, Some(status)));
+}
+
+#[test]
+fn a_program_that_tells_of_an_error_ends_with_1() {
+    ends("tells", "echo told >&2", "told\n", 1);
+    ends("tells_a_byte", "printf '\\n' >&2", "\n", 1);
+    ends("tells_nothing", "printf '' >&2", "", 0);
+}
+
+#[test]
+fn the_status_of_a_program_is_its_own() {
+    ends("status", "exit 3", "", 3);
+    ends("status_told", "echo told >&2; exit 3", "told\n", 3);
+    ends("status_signal", "kill -TERM $$", "", 128 + 15);
+}
+
+/// The first run proves it, and says so on standard error.
+#[test]
+fn what_the_proving_says_does_not_count() {
+    let bench = Bench::new("says");
+    let said = bench.lister(true);
+    assert!(said.err.contains("proving and building it"), "{said:?}");
+    ran(&said, "first x\n");
+}
+
+#[test]
+fn a_program_reads_the_standard_input_of_the_command() {
+    let bench = Bench::doing("reads", "cat");
+    let said = run(&mut bench.command_at(&bench.here.join("lister"), false), b"one\ntwo\n");
+    ran(&said, "first\none\ntwo\n");
+}
+
+/// The command with a folder of its own for temporary files.
+fn with_own_folder(bench: &Bench) -> (PathBuf, Command) {
+    let own = bench.here.join("temporary");
+    fs::create_dir(&own).expect("a folder");
+    let mut command = bench.command_at(&bench.here.join("lister"), false);
+    command.env("TMPDIR", &own);
+    (own, command)
+}
+
+fn files_in(folder: &Path) -> usize {
+    fs::read_dir(folder).expect("a folder").count()
+}
+
+/// The file is there, with or without a name: in a folder that is not there the command cannot make it.
+#[test]
+fn no_temporary_file_is_left() {
+    let (own, mut command) = with_own_folder(&Bench::doing("left", "echo told >&2"));
+    assert_eq!(run(&mut command, &[]).status, Some(1));
+    assert_eq!(files_in(&own), 0);
+    fs::remove_dir(&own).expect("an empty folder");
+    assert_ne!(run(&mut command, &[]).err, "told\n");
+}
+
+/// A signal to the command ends the program too; what it had told until then is told.
+#[test]
+fn an_interrupted_command_ends_its_program() {
+    for signal in ["INT", "TERM", "HUP"] {
+        let bench = Bench::doing(&format!("interrupted_{signal}"), "echo told >&2; echo $$; exec sleep 60");
+        let (own, mut command) = with_own_folder(&bench);
+        let mut child = command.stdout(Stdio::piped()).stderr(Stdio::piped()).spawn().expect("it starts");
+        let lines = BufReader::new(child.stdout.take().expect("its output")).lines().map_while(Result::ok);
+        let program = lines.skip(1).next().expect("the program's number");
+        let there = || Path::new("/proc").join(&program).exists();
+        assert!(there());
+        run(Command::new("sh").args(["-c", &format!("kill -{signal} {}", child.id())]), &[]);
+        let said = child.wait_with_output().expect("its end");
+        assert_eq!((said.status.code(), said.stderr.as_slice()), (Some(128 + 15), &b"told\n"[..]), "{signal}");
+        assert_eq!((there(), files_in(&own)), (false, 0), "{signal}");
+    }
 }

@@ -6,6 +6,7 @@
 pub mod adder;
 pub mod agree;
 pub mod bits;
+pub mod board;
 pub mod branch;
 pub mod cycle;
 pub mod decimal;

@@ -1,30 +1,49 @@
+-- What is laid out, added and said is the entry's answer. Assumes nothing.
+use mathlib.Core.Path.{refl}
+use native.Mathlib.Omega.{arith}
+use denote.Ref.{now}
 use borrow.Author.Needs.{needs}
+use Rattle.arguments.proofs.Laws.{fit-short}
+use Rattle.board.proofs.Laws.{few-bytes, said}
 use Rattle.board.proofs.add.say.Statement.{statement}
 use Rattle.board.proofs.add.say.Tie as tie
-use Rattle.board.proofs.add.say.Reads as reads
-use Rattle.board.proofs.add.say.Lts as lts
-use Rattle.board.proofs.add.answered.Reads as answered-reads
-use Rattle.board.proofs.add.field_length.Reads as field-length-reads
-use Rattle.board.proofs.add.lay_out.Reads as lay-out-reads
-use Rattle.lamps.proofs.result.Reads as result-reads
 
 field-length-requires : tie.Need-field-length-requires
-field-length-requires c κs = ?
+field-length-requires c κs =
+    let s = c .before .before .before .before in
+    (fit-short 16 32 (now (s .args .first)) (s .pre .0), fit-short 16 32 (now (s .args .second)) (s .pre .1))
 
 lay-out-requires : tie.Need-lay-out-requires
-lay-out-requires c κs = ?
+lay-out-requires c κs =
+    let s = c .before .before .before .before .before .before in
+    let few = few-bytes (now (s .args .first)) (now (s .args .second)) (s .pre .0) (s .pre .1) in
+    (refl, rw (c .before .field-length .ensures) (few .1))
 
 answered-requires : tie.Need-answered-requires
-answered-requires c κs = ?
+answered-requires c κs =
+    let laid = c .before .before .before .before in
+    let sized = laid .before .before in
+    let s = sized .before .before .before .before .before in
+    let few = few-bytes (now (s .args .first)) (now (s .args .second)) (s .pre .0) (s .pre .1) in
+    let n = sized .field-length .ensures in
+    (rw n few, (laid .lay-out .kept .1 .1 .1 .0, refl))
 
 part-result-end : tie.Need-part-result-end
-part-result-end c = ?
-
-result-requires : tie.Need-result-requires
-result-requires c κs = search needs
+part-result-end c =
+    let ran = c .before .before .before .before .before .before in
+    let laid = ran .before .before .before .before .before in
+    let sized = laid .before .before in
+    let s = sized .before .before .before .before .before in
+    let few = few-bytes (now (s .args .first)) (now (s .args .second)) (s .pre .0) (s .pre .1) in
+    omega (arith, sized .field-length .ensures, few, ran .answered .kept .1 .1 .1 .0, laid .lay-out .kept .1 .1 .1 .0)
 
 returns : tie.Need-returns
-returns c = ?
+returns c =
+    let ran = c .before .before .before .before .before .before .before .before .before .before .before in
+    let laid = ran .before .before .before .before .before in
+    let sized = laid .before .before in
+    let a = sized .before .before .before .before .before .args in
+    rw (said (now (a .first)) (now (a .second)) (a .carry) _ _ _ _ _ (sized .field-length .ensures) (laid .lay-out .ensures) (ran .answered .ensures)) at (c .before .before .result .ensures)
 
 pub say-spec : {M : Type 1} → statement M
 say-spec =
@@ -40,7 +59,7 @@ say-spec =
     (λ c. search needs)
     (λ c. search needs)
     part-result-end
-    result-requires
+    (λ c κs. search needs)
     (λ c. search needs)
     (λ c. search needs)
     returns)

@@ -1,95 +1,59 @@
+-- What is left of the run stands for the whole; what is shown changes nothing of it. Assumes nothing.
+use Prim.Native.Nat.{_≤_, _-_}
+use mathlib.Core.Path.{_≡_, refl, sym, ap, _∙_}
+use native.Mathlib.Nat.{sub-zero}
+use native.Mathlib.Omega.{arith}
+use borrow.Author.Needs.{needs}
+use lib.ListN.{length}
+use Rattle.machine.specs.Cycle.{outcome}
+use Rattle.run.specs.Run.{cyclesOf}
+use Rattle.run.specs.declared.Finished.{Finished}
+use Rattle.run.proofs.Runs.{on-spent, on-answer}
 use Rattle.board.proofs.go.cycles.Statement.{statement}
 use Rattle.board.proofs.go.cycles.Tie as tie
-use Rattle.board.proofs.go.cycles.Reads as reads
-use Rattle.board.proofs.go.cycles.Lts as lts
-use Rattle.board.proofs.go.ended.Reads as ended-reads
-use Rattle.board.proofs.go.show.Reads as show-reads
-use Rattle.board.proofs.go.work.Reads as work-reads
-use Rattle.machine.proofs.cycle.Reads as cycle-reads
 
 abbrev Inv-loop : tie.InvT-loop
-Inv-loop view store main₀ local₀ budget room₀ now₀ done₀ out₀ main local room now done out = ?
+Inv-loop view store main₀ local₀ budget room₀ now₀ done₀ out₀ main local room now done out =
+    (done ≤ budget) × (length main ≡ length main₀) × (length local ≡ length local₀) × (length room ≡ length room₀)
+    × (cyclesOf (budget - done) store main local now done ≡ cyclesOf budget store main₀ local₀ now₀ done₀)
 
 abbrev μ-loop : tie.MeasureT-loop
-μ-loop view store main₀ local₀ budget room₀ now₀ done₀ out₀ main local room now done out = ?
+μ-loop view store main₀ local₀ budget room₀ now₀ done₀ out₀ main local room now done out = budget - done
 
 loop-holds : tie.Need-loop-holds Inv-loop μ-loop
-loop-holds c = ?
-
-ended-requires : tie.Need-ended-requires Inv-loop μ-loop
-ended-requires c κs = ?
-
-add-work : tie.Need-add-work Inv-loop μ-loop
-add-work c = ?
-
-work-requires : tie.Need-work-requires Inv-loop μ-loop
-work-requires c κs = ?
-
-cycle-requires : tie.Need-cycle-requires Inv-loop μ-loop
-cycle-requires c κs = ?
-
-enum-known-next : tie.Need-enum-known-next Inv-loop μ-loop
-enum-known-next c = ?
-
-add-done : tie.Need-add-done Inv-loop μ-loop
-add-done c = ?
-
-show-requires : tie.Need-show-requires Inv-loop μ-loop
-show-requires c κs = ?
-
-loop-less : tie.Need-loop-less Inv-loop μ-loop
-loop-less c = ?
+loop-holds c = (search needs, refl, refl, refl, rw sub-zero)
 
 loop-again : tie.Need-loop-again Inv-loop μ-loop
-loop-again c = ?
-
-enum-known-last : tie.Need-enum-known-last Inv-loop μ-loop
-enum-known-last c = ?
-
-ended-requires-2 : tie.Need-ended-requires-2 Inv-loop μ-loop
-ended-requires-2 c κs = ?
-
-enum-known-last-2 : tie.Need-enum-known-last-2 Inv-loop μ-loop
-enum-known-last-2 c = ?
-
-ended-requires-3 : tie.Need-ended-requires-3 Inv-loop μ-loop
-ended-requires-3 c κs = ?
-
-same-length : tie.Need-same-length Inv-loop μ-loop
-same-length c = ?
-
-same-length-2 : tie.Need-same-length-2 Inv-loop μ-loop
-same-length-2 c = ?
-
-same-length-3 : tie.Need-same-length-3 Inv-loop μ-loop
-same-length-3 c = ?
+loop-again c =
+    let told = c .before .before .before .before .before in
+    let ran = told .before .before .before .before .before .before in
+    let left = ran .before .before .before .before in
+    let at = left .before .loop in (
+      omega (arith, left .if1 .left),
+      ran .cycle .kept .1 .0 ∙ at .inv .1,
+      ran .cycle .kept .1 .1 .0 ∙ at .inv .2,
+      c .before .before .show .kept .1 .1 .1 .1 .1 .1 .0 ∙ at .inv .3,
+      sym (on-answer _ _ _ _ _ _ _ _ _ _ (omega (arith, left .if1 .left)) (ran .cycle .ensures) (told .next .given .1)) ∙ at .inv .4,
+    )
 
 returns : tie.Need-returns Inv-loop μ-loop
-returns c = ?
-
-same-length-4 : tie.Need-same-length-4 Inv-loop μ-loop
-same-length-4 c = ?
-
-same-length-5 : tie.Need-same-length-5 Inv-loop μ-loop
-same-length-5 c = ?
-
-same-length-6 : tie.Need-same-length-6 Inv-loop μ-loop
-same-length-6 c = ?
+returns c =
+    let at = c .before .before .loop in
+    ap (λ (f : Finished). outcome f (at .main) (at .local)) (c .ended .ensures) ∙ sym (on-spent _ _ _ _ _ _ (c .before .if1 .taken)) ∙ at .inv .4
 
 returns-2 : tie.Need-returns-2 Inv-loop μ-loop
-returns-2 c = ?
-
-same-length-7 : tie.Need-same-length-7 Inv-loop μ-loop
-same-length-7 c = ?
-
-same-length-8 : tie.Need-same-length-8 Inv-loop μ-loop
-same-length-8 c = ?
-
-same-length-9 : tie.Need-same-length-9 Inv-loop μ-loop
-same-length-9 c = ?
+returns-2 c =
+    let ran = c .before .before .before .before .before .before .before .before in
+    let left = ran .before .before .before .before in
+    ap (λ (f : Finished). outcome f (ran .cycle .last .1 .0) (ran .cycle .last .1 .1 .0)) (c .ended2 .ensures)
+    ∙ sym (on-answer _ _ _ _ _ _ _ _ _ _ (omega (arith, left .if1 .left)) (ran .cycle .ensures) (c .before .before .last .given .1)) ∙ left .before .loop .inv .4
 
 returns-3 : tie.Need-returns-3 Inv-loop μ-loop
-returns-3 c = ?
+returns-3 c =
+    let ran = c .before .before .before .before .before .before .before .before in
+    let left = ran .before .before .before .before in
+    ap (λ (f : Finished). outcome f (ran .cycle .last .1 .0) (ran .cycle .last .1 .1 .0)) (c .ended3 .ensures)
+    ∙ sym (on-answer _ _ _ _ _ _ _ _ _ _ (omega (arith, left .if1 .left)) (ran .cycle .ensures) (c .before .before .last2 .given .1)) ∙ left .before .loop .inv .4
 
 pub cycles-spec : {M : Type 1} → statement M
 cycles-spec =
@@ -98,28 +62,28 @@ cycles-spec =
     Inv-loop
     μ-loop
     loop-holds
-    ended-requires
-    add-work
-    work-requires
-    cycle-requires
-    enum-known-next
-    add-done
-    show-requires
-    loop-less
+    (λ c κs. tt)
+    (λ c. search needs)
+    (λ c κs. tt)
+    (λ c κs. tt)
+    (λ c. search needs)
+    (λ c. search needs)
+    (λ c κs. tt)
+    (λ c. search needs)
     loop-again
-    enum-known-last
-    ended-requires-2
-    enum-known-last-2
-    ended-requires-3
-    same-length
-    same-length-2
-    same-length-3
+    (λ c. search needs)
+    (λ c κs. tt)
+    (λ c. search needs)
+    (λ c κs. tt)
+    (λ c. c .before .before .loop .inv .1)
+    (λ c. c .before .before .loop .inv .2)
+    (λ c. c .before .before .loop .inv .3)
     returns
-    same-length-4
-    same-length-5
-    same-length-6
+    (λ c. c .before .before .before .before .before .before .before .before .cycle .kept .1 .0 ∙ c .before .before .before .before .before .before .before .before .before .before .before .before .before .loop .inv .1)
+    (λ c. c .before .before .before .before .before .before .before .before .cycle .kept .1 .1 .0 ∙ c .before .before .before .before .before .before .before .before .before .before .before .before .before .loop .inv .2)
+    (λ c. c .before .before .before .before .before .before .before .before .before .before .before .before .before .loop .inv .3)
     returns-2
-    same-length-7
-    same-length-8
-    same-length-9
+    (λ c. c .before .before .before .before .before .before .before .before .cycle .kept .1 .0 ∙ c .before .before .before .before .before .before .before .before .before .before .before .before .before .loop .inv .1)
+    (λ c. c .before .before .before .before .before .before .before .before .cycle .kept .1 .1 .0 ∙ c .before .before .before .before .before .before .before .before .before .before .before .before .before .loop .inv .2)
+    (λ c. c .before .before .before .before .before .before .before .before .before .before .before .before .before .loop .inv .3)
     returns-3)

@@ -1,35 +1,36 @@
+-- 1, 22, then the cycles. Assumes nothing.
+use mathlib.Core.Path.{ap, _∙_}
 use borrow.Author.Needs.{needs}
+use denote.Ref.{now}
+use Rattle.machine.specs.Cycle.{outcome}
+use Rattle.run.specs.declared.Finished.{Finished}
+use Rattle.run.proofs.Runs.{refused-at-once, begins}
 use Rattle.board.proofs.go.go.Statement.{statement}
 use Rattle.board.proofs.go.go.Tie as tie
-use Rattle.board.proofs.go.go.Reads as reads
-use Rattle.board.proofs.go.go.Lts as lts
-use Rattle.board.proofs.go.cycles.Reads as cycles-reads
-use Rattle.board.proofs.go.ended.Reads as ended-reads
-use Rattle.run.proofs.refusal.Reads as refusal-reads
-
-refusal-requires : tie.Need-refusal-requires
-refusal-requires c κs = search needs
-
-ended-requires : tie.Need-ended-requires
-ended-requires c κs = search needs
 
 returns : tie.Need-returns
-returns c = ?
-
-cycles-requires : tie.Need-cycles-requires
-cycles-requires c κs = search needs
+returns c =
+    let asked = c .before .before in
+    let a = asked .before .before .before .before .before .args in
+    ap (λ (f : Finished). outcome f (now (a .main)) (now (a .local))) (c .ended .ensures)
+    ∙ refused-at-once (a .budget) (now (a .store)) (now (a .main)) (now (a .local)) (a .state) _ (asked .refusal .ensures) (c .before .if1 .taken)
 
 returns-2 : tie.Need-returns-2
-returns-2 c = ?
+returns-2 c =
+    let ran = c .before .before .before .before .before .before in
+    let passed = ran .before .before .before .before in
+    let a = passed .before .before .before .before .before .before .args in
+    ran .cycles .ensures
+    ∙ begins (a .budget) (now (a .store)) (now (a .main)) (now (a .local)) (a .state) _ (passed .before .refusal .ensures) (passed .if1 .left)
 
 pub go-spec : {M : Type 1} → statement M
 go-spec =
     tie.close
     (tie.spec
-    refusal-requires
-    ended-requires
+    (λ c κs. tt)
+    (λ c κs. tt)
     returns
-    cycles-requires
+    (λ c κs. tt)
     (λ c. search needs)
     (λ c. search needs)
     (λ c. search needs)

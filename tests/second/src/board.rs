@@ -1,0 +1,443 @@
+//! What the program `board` prints of a run, written from the description of its text alone.
+
+use crate::adder::Work;
+use crate::cycle::{cycle, next_work, Answer};
+use crate::decimal::{add_decimal, Outcome};
+use crate::run::Ending;
+use crate::shipped::{self, SHIPPED};
+use crate::state::State;
+use crate::word::LAYOUT;
+use crate::Refusal;
+
+/// The refusals in words, by number; there is no 0.
+pub const WORDS: [&str; 23] = [
+    "",
+    "a size is wrong: of the word store, of main or of local storage",
+    "WX is not in the word store",
+    "one of the word's top nine bits is set",
+    "PN is wrong",
+    "PA is wrong",
+    "PS is wrong",
+    "PC is wrong",
+    "CL = 2 and K to W in one word",
+    "PK is wrong",
+    "a code is not modelled",
+    "the main address is not in main storage",
+    "the decimal length is not 1 to 16",
+    "a decimal field does not lie in main storage",
+    "the decimal fields overlap and do not start together",
+    "the deck's length is 0, no multiple of 512, or over 34304",
+    "a block's number is not its place",
+    "a count, reserved bytes or unused bytes are wrong",
+    "a block's check is wrong",
+    "the room lent is too small",
+    "a field or the address is beyond its width",
+    "there are no words, or over 4096",
+    "the budget is over 1000000",
+];
+
+/// A column of a line: as wide as the wider of its heading and its digits.
+struct Column {
+    heading: &'static str,
+    digits: usize,
+    value: u16,
+}
+
+fn byte(heading: &'static str, value: u8) -> Column {
+    Column { heading, digits: 2, value: value.into() }
+}
+
+fn latch(heading: &'static str, on: bool) -> Column {
+    Column { heading, digits: 1, value: on.into() }
+}
+
+const REGISTERS: [&str; 13] = ["I", "J", "U", "V", "L", "T", "D", "R", "S", "G", "H", "M", "N"];
+
+fn state_columns(state: &State) -> Vec<Column> {
+    let mut columns = Vec::with_capacity(21);
+    columns.extend(REGISTERS.iter().zip(state.registers).map(|(heading, value)| byte(heading, value)));
+    columns.push(Column { heading: "WX", digits: 4, value: state.wx });
+    columns.extend([
+        latch("AC", state.ac),
+        latch("1BC", state.bc1),
+        latch("Z0", state.z0),
+        latch("AW", state.allow_write),
+        latch("LS", state.local),
+        latch("AR", state.arriving),
+        byte("AB", state.arriving_byte),
+    ]);
+    columns
+}
+
+fn work_columns(work: &Work) -> [Column; 8] {
+    [
+        byte("A", work.a_chosen),
+        byte("GA", work.a_gated),
+        byte("B", work.b_chosen),
+        byte("GB", work.b_gated),
+        byte("EB", work.b_entering),
+        latch("CI", work.carry_in),
+        byte("BEFORE", work.before),
+        byte("AFTER", work.after),
+    ]
+}
+
+/// The line of headings.
+pub fn header() -> String {
+    let mut text = String::from("  CYCLE  AT");
+    for Column { heading, digits, .. } in
+        state_columns(&State::default()).into_iter().chain(work_columns(&Work::default()))
+    {
+        text += &format!(" {heading:>digits$}");
+    }
+    text + "\n"
+}
+
+/// So many hexadecimal digits. A million lines have thirty million columns: digit by digit, without `format!`.
+fn push_hexadecimal(text: &mut String, value: u16, digits: usize) {
+    for place in (0..digits).rev() {
+        text.push(char::from(b"0123456789ABCDEF"[usize::from(value >> (4 * place) & 15)]));
+    }
+}
+
+fn push_columns(text: &mut String, columns: &[Column]) {
+    for Column { heading, digits, value } in columns {
+        for _ in 0..=heading.len().saturating_sub(*digits) {
+            text.push(' ');
+        }
+        push_hexadecimal(text, *value, *digits);
+    }
+}
+
+/// The state before the first cycle, as a line.
+fn push_start(text: &mut String, state: &State) {
+    *text += "      0 ---";
+    push_columns(text, &state_columns(state));
+    text.push('\n');
+}
+
+/// A cycle that ran: its number, its word's address, the state after it and its work.
+fn push_line(text: &mut String, number: u64, at: u16, state: &State, work: &Work) {
+    *text += &format!("{number:>7} ");
+    push_hexadecimal(text, at, 3);
+    push_columns(text, &state_columns(state));
+    push_columns(text, &work_columns(work));
+    text.push('\n');
+}
+
+/// The rows of lamps of a record: one lamp where the row is a latch, else eight.
+const ROWS: [(&str, bool); 22] = [
+    ("I", false),
+    ("J", false),
+    ("U", false),
+    ("V", false),
+    ("L", false),
+    ("T", false),
+    ("D", false),
+    ("R", false),
+    ("S", false),
+    ("G", false),
+    ("H", false),
+    ("M", false),
+    ("N", false),
+    ("W", false),
+    ("X", false),
+    ("AC", true),
+    ("1BC", true),
+    ("Z0", true),
+    ("ALLOW", true),
+    ("LOCAL", true),
+    ("ARRIVING", true),
+    ("BYTE", false),
+];
+
+/// A row's name, and its lamps from bit 0, the high one, on.
+type Row = (&'static str, String);
+
+fn lamp(lit: bool) -> char {
+    if lit {
+        '*'
+    } else {
+        '.'
+    }
+}
+
+fn eight(byte: u8) -> String {
+    (0..8).map(|bit| lamp(byte & 0x80 >> bit != 0)).collect()
+}
+
+fn one(on: bool) -> String {
+    lamp(on).into()
+}
+
+fn state_rows(state: &State) -> Vec<Row> {
+    let row = |((name, latch), byte): ((_, bool), u8)| (name, if latch { one(byte != 0) } else { eight(byte) });
+    ROWS.into_iter().zip(state.to_bytes()).map(row).collect()
+}
+
+fn work_rows(work: &Work) -> [Row; 8] {
+    [
+        ("A", eight(work.a_chosen)),
+        ("GATED-A", eight(work.a_gated)),
+        ("B", eight(work.b_chosen)),
+        ("GATED-B", eight(work.b_gated)),
+        ("ENTERS-B", eight(work.b_entering)),
+        ("CARRY-IN", one(work.carry_in)),
+        ("BEFORE", eight(work.before)),
+        ("AFTER", eight(work.after)),
+    ]
+}
+
+/// Rows side by side, eight in a block: a line of their names over a line of their lamps.
+fn push_rows(text: &mut String, rows: &[Row]) {
+    for block in rows.chunks(8) {
+        let names: String = block.iter().map(|(name, _)| format!("{name:>9}")).collect();
+        let lamps: String = block.iter().map(|(_, lamps)| format!("{lamps:>9}")).collect();
+        *text += &format!("{names}\n{lamps}\n");
+    }
+}
+
+/// The state before the first cycle, as lamps.
+fn push_start_picture(text: &mut String, state: &State) {
+    *text += &format!("CYCLE{:>7}\n", 0);
+    push_rows(text, &state_rows(state));
+    text.push('\n');
+}
+
+fn push_picture(text: &mut String, number: u64, at: u16, state: &State, work: &Work) {
+    *text += &format!("CYCLE{number:>7} AT {at:03X}\n");
+    push_rows(text, &state_rows(state));
+    push_rows(text, &work_rows(work));
+    text.push('\n');
+}
+
+/// Each lamp by name and number, with the record that lights it alone.
+pub fn walk() -> String {
+    let mut text = String::new();
+    for (place, (name, latch)) in ROWS.into_iter().enumerate() {
+        for bit in if latch { 7..8 } else { 0..8 } {
+            let number = if latch { " ".into() } else { bit.to_string() };
+            let record = (0..22).map(|other| if other == place { 0x80u8 >> bit } else { 0 });
+            let bytes: String = record.map(|byte| format!(" {byte:02X}")).collect();
+            text += &format!("{name:>9}{number}{bytes}\n");
+        }
+    }
+    text
+}
+
+/// How a run ended, where it stands.
+pub fn ended(ending: Ending, state: &State) -> String {
+    let at = state.wx;
+    match ending {
+        Ending::Stopped => format!("STOPPED AT {at:03X}\n"),
+        Ending::Spent => format!("SPENT AT {at:03X}\n"),
+        Ending::Refused { number, field } => {
+            let field = if field == 0 { String::new() } else { format!(" {}", LAYOUT[usize::from(field) - 1].0) };
+            format!("REFUSED {number}{field} AT {at:03X}: {}\n", in_words(number))
+        }
+    }
+}
+
+pub fn in_words(number: Refusal) -> &'static str {
+    WORDS[usize::from(number)]
+}
+
+/// Lines or lamps, and the first and the last cycle of those shown.
+#[derive(Clone, Copy, Debug)]
+pub struct View {
+    pub lamps: bool,
+    pub from: u64,
+    pub to: u64,
+}
+
+impl View {
+    pub const LINES: View = View { lamps: false, from: 0, to: u64::MAX };
+    pub const LAMPS: View = View { lamps: true, ..View::LINES };
+
+    fn push_start(&self, text: &mut String, state: &State) {
+        match (self.from, self.lamps) {
+            (0, false) => push_start(text, state),
+            (0, true) => push_start_picture(text, state),
+            _ => {}
+        }
+    }
+
+    fn push(&self, text: &mut String, number: u64, at: u16, state: &State, work: &Work) {
+        if (self.from..=self.to).contains(&number) {
+            let push = if self.lamps { push_picture } else { push_line };
+            push(text, number, at, state, work);
+        }
+    }
+}
+
+/// A run from a state, with local storage of zeros: all that is printed of it, and how it ended.
+pub fn run(store: &[u64], main: &[u8], start: State, budget: u64, view: &View) -> (String, Ending) {
+    let (mut main, mut local, mut state) = (main.to_vec(), [0; 256], start);
+    let mut text = if view.lamps { String::new() } else { header() };
+    view.push_start(&mut text, &state);
+    let mut ending = Ending::Spent;
+    for number in 1..=budget {
+        let (at, work) = (state.wx, next_work(store, &state));
+        match cycle(store, &mut main, &mut local, &mut state) {
+            Answer::Ran => view.push(&mut text, number, at, &state, &work.expect("the work of a cycle that ran")),
+            Answer::Stopped => ending = Ending::Stopped,
+            Answer::Refused { number, field } => ending = Ending::Refused { number, field },
+        }
+        if ending != Ending::Spent {
+            break;
+        }
+    }
+    text += &ended(ending, &state);
+    (text, ending)
+}
+
+// Where an addition's fields lie.
+const FIRST: usize = 0x100;
+const SECOND: usize = 0x200;
+
+/// A number's digits at the right end of a field, over zeros.
+fn lay_out(field: &mut [u8], digits: &str) {
+    let width = 2 * field.len();
+    let digits = format!("{digits:0>width$}");
+    for (place, byte) in field.iter_mut().enumerate() {
+        *byte = u8::from_str_radix(&digits[2 * place..2 * place + 2], 16).expect("two digits");
+    }
+}
+
+/// What an addition came to, by whole numbers and not by the shipped words.
+fn result(first: &str, second: &str, main: &mut [u8], length: usize, carry: bool) -> String {
+    match add_decimal(main, &[0; 256], FIRST, SECOND, length, carry) {
+        Outcome::Summed { carry } => {
+            let sum: String = main[FIRST..FIRST + length].iter().map(|byte| format!("{byte:02X}")).collect();
+            format!("{first} + {second} = {sum} CARRY {}\n", u8::from(carry))
+        }
+        Outcome::BadDigit => format!("{first} + {second}: BAD DIGIT\n"),
+        Outcome::Refused { number } => panic!("{first} + {second} is refused by {number}"),
+    }
+}
+
+/// All that is printed of an addition of two numbers of 1 to 32 digits.
+pub fn add(first: &str, second: &str, carry: bool, view: &View) -> String {
+    let length = first.len().max(second.len()).div_ceil(2);
+    let mut main = vec![0; 1024];
+    lay_out(&mut main[FIRST..FIRST + length], first);
+    lay_out(&mut main[SECOND..SECOND + length], second);
+    let start = shipped::start(FIRST as u16, SECOND as u16, length as u8, carry);
+    let (text, _) = run(&SHIPPED, &main, start, 40 * length as u64 + 40, view);
+    text + &result(first, second, &mut main, length, carry)
+}
+
+#[cfg(test)]
+mod tests {
+    use super::*;
+
+    const HEADER: &str = "  CYCLE  AT  I  J  U  V  L  T  D  R  S  G  H  M  N   WX AC 1BC Z0 AW LS AR AB  \
+                          A GA  B GB EB CI BEFORE AFTER\n";
+
+    /// Every column has a value of its own.
+    fn all_different() -> (State, Work) {
+        let bytes = std::array::from_fn(|place| if (15..21).contains(&place) { 0 } else { 0xA0 + place as u8 });
+        let work = Work {
+            a_chosen: 0xC1,
+            a_gated: 0xC2,
+            b_chosen: 0xC3,
+            b_gated: 0xC4,
+            b_entering: 0xC5,
+            carry_in: true,
+            before: 0xC6,
+            after: 0xC7,
+        };
+        (State { ac: true, z0: true, local: true, ..State::from_bytes(&bytes) }, work)
+    }
+
+    #[test]
+    fn headings_stand_over_their_columns() {
+        assert_eq!(header(), HEADER);
+        let (state, work) = all_different();
+        let mut line = String::new();
+        push_line(&mut line, 1_000_000, 0xFED, &state, &work);
+        assert_eq!(
+            line,
+            "1000000 FED A0 A1 A2 A3 A4 A5 A6 A7 A8 A9 AA AB AC ADAE  1   0  1  0  1  0 B5 C1 C2 C3 C4 C5  1     C6    C7\n"
+        );
+        assert_eq!((line.len(), HEADER.len()), (109, 109));
+    }
+
+    #[test]
+    fn the_start_has_no_address_and_no_work() {
+        let mut line = String::new();
+        push_start(&mut line, &all_different().0);
+        assert_eq!(line, "      0 --- A0 A1 A2 A3 A4 A5 A6 A7 A8 A9 AA AB AC ADAE  1   0  1  0  1  0 B5\n");
+        assert_eq!(line.len(), 78);
+    }
+
+    /// Of the same state and work, set out by hand.
+    const PICTURE: &str = "\
+CYCLE     12 AT 00F
+        I        J        U        V        L        T        D        R
+ *.*..... *.*....* *.*...*. *.*...** *.*..*.. *.*..*.* *.*..**. *.*..***
+        S        G        H        M        N        W        X       AC
+ *.*.*... *.*.*..* *.*.*.*. *.*.*.** *.*.**.. *.*.**.* *.*.***.        *
+      1BC       Z0    ALLOW    LOCAL ARRIVING     BYTE
+        .        *        .        *        . *.**.*.*
+        A  GATED-A        B  GATED-B ENTERS-B CARRY-IN   BEFORE    AFTER
+ **.....* **....*. **....** **...*.. **...*.*        * **...**. **...***
+
+";
+
+    #[test]
+    fn lamps_stand_under_their_names() {
+        let (state, work) = all_different();
+        let mut picture = String::new();
+        push_picture(&mut picture, 12, 0x00F, &state, &work);
+        assert_eq!(picture, PICTURE);
+        assert_eq!(picture.len(), 569);
+        let mut start = String::new();
+        push_start_picture(&mut start, &state);
+        assert_eq!(start.len(), 416);
+        let lines: Vec<&str> = PICTURE.lines().collect();
+        assert_eq!(start.lines().collect::<Vec<_>>(), [&["CYCLE      0"], &lines[1..7], &[""]].concat());
+    }
+
+    #[test]
+    fn the_walk_has_a_line_for_each_lamp() {
+        let text = walk();
+        assert_eq!((text.len(), text.lines().count()), (10_318, 134));
+        assert!(text.starts_with("        I0 80 00 00 00 00 00 00 00 00 00 00 00 00 00 00 00 00 00 00 00 00 00\n"));
+        assert!(text.contains("\n      1BC  00 00 00 00 00 00 00 00 00 00 00 00 00 00 00 00 01 00 00 00 00 00\n"));
+        assert!(text.ends_with("\n     BYTE7 00 00 00 00 00 00 00 00 00 00 00 00 00 00 00 00 00 00 00 00 00 01\n"));
+    }
+
+    #[test]
+    fn endings_name_the_address_and_the_refusal() {
+        let state = State { wx: 5, ..State::default() };
+        let of = |ending| ended(ending, &state);
+        assert_eq!(of(Ending::Stopped), "STOPPED AT 005\n");
+        assert_eq!(of(Ending::Spent), "SPENT AT 005\n");
+        let refused = |number, field| of(Ending::Refused { number, field });
+        assert_eq!(refused(10, 8), "REFUSED 10 CA AT 005: a code is not modelled\n");
+        assert_eq!(refused(11, 0), "REFUSED 11 AT 005: the main address is not in main storage\n");
+    }
+
+    #[test]
+    fn an_addition_ends_with_its_sum() {
+        let last = |first, second, carry| add(first, second, carry, &View::LINES).lines().last().map(str::to_owned);
+        assert_eq!(last("38", "47", false).as_deref(), Some("38 + 47 = 85 CARRY 0"));
+        assert_eq!(last("999", "1", true).as_deref(), Some("999 + 1 = 1001 CARRY 0"));
+        assert_eq!(last("99", "0", true).as_deref(), Some("99 + 0 = 00 CARRY 1"));
+        assert_eq!(last("9", "a", false).as_deref(), Some("9 + a: BAD DIGIT"));
+    }
+
+    #[test]
+    fn only_the_cycles_asked_for_are_shown() {
+        let all = add("38", "47", false, &View::LINES);
+        let lines: Vec<&str> = all.lines().collect();
+        let of = |from, to| add("38", "47", false, &View { from, to, ..View::LINES });
+        assert_eq!(of(0, 0).lines().collect::<Vec<_>>(), [&lines[..2], &lines[lines.len() - 2..]].concat());
+        assert_eq!(
+            of(3, 4).lines().collect::<Vec<_>>(),
+            [&lines[..1], &lines[4..6], &lines[lines.len() - 2..]].concat()
+        );
+        assert_eq!(of(99, 99).lines().count(), 3);
+    }
+}
