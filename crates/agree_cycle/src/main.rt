@@ -1,7 +1,8 @@
-// Single cycles against tests/second: drawn words, states and storage sizes, by rule and by table.
+// Single cycles against tests/second, and the work that would be done in each: drawn words, states and storage sizes, by rule and by table.
 use agree::Lent;
 use libc::STDOUT_FILENO;
 use machine::Cycled;
+use machine::NextSum;
 use machine::State;
 
 // A case: the word that stands at WX, the state, and how much of each storage is lent.
@@ -103,6 +104,24 @@ fn mix_answer(digest: u64, c: Cycled, main: &[u8], local: &[u8], before: State) 
     agree::mix(d, byte_at(main, at) as u64 * 256 + byte_at(local, n) as u64)
 }
 
+// The digest after the work of the next word, or after 0 where it would make no sum.
+fn mix_work(digest: u64, sum: NextSum) -> u64 {
+    let NextSum::Sums(w) = sum else {
+        return agree::mix(digest, 0);
+    };
+    let bytes = agree::eight(
+        w.a_chosen,
+        w.a_gated,
+        w.b_chosen,
+        w.b_gated,
+        w.b_entering,
+        digits::one(w.carry_in),
+        w.before,
+        w.after,
+    );
+    agree::mix(agree::mix(digest, 1), bytes)
+}
+
 // An answer is counted at its number, and at 256 more than its field.
 fn count(c: Cycled, counts: &mut [u32]) {
     agree::tally(counts, number_of(c) as usize);
@@ -117,9 +136,10 @@ fn by_rule(
     s: State,
     counts: &mut [u32],
 ) -> u64 {
+    let worked = mix_work(digest, machine::next_sum(store, s));
     let answer = machine::cycle(store, main, local, s);
     count(answer, counts);
-    mix_answer(digest, answer, main, local, s)
+    mix_answer(worked, answer, main, local, s)
 }
 
 fn by_table(digest: u64, store: &[u64], main: &mut [u8], local: &mut [u8], s: State) -> u64 {

@@ -65,7 +65,14 @@ fn wrong(at: usize, registers: bool) -> Asked {
     Asked::Wrong
 }
 
-fn register(at: usize, o: Options, registers: bool, place: u8, value: u16, seen: &mut [u8]) -> Asked {
+fn register(
+    at: usize,
+    o: Options,
+    registers: bool,
+    place: u8,
+    value: u16,
+    seen: &mut [u8],
+) -> Asked {
     if !registers {
         return wrong(at, registers);
     }

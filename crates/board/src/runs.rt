@@ -49,7 +49,16 @@ fn over(lamps: bool, words: &[u64], main: &mut [u8], budget: u32, first: usize) 
     let mut local = [0u8; 256];
     let mut room = [0u8; 65536];
     let out = go::begin(view, o.state, &mut room);
-    let went = go::go(view, words, main, &mut local, o.state, budget, out, &mut room);
+    let went = go::go(
+        view,
+        words,
+        main,
+        &mut local,
+        o.state,
+        budget,
+        out,
+        &mut room,
+    );
     let out = go::end(went.finished, went.out, &mut room);
     out::flush(out, &room);
 }

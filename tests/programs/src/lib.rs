@@ -1,5 +1,6 @@
 //! The built programs and the linked panel, run as a user runs them. What they must answer comes from the second engine.
 
+use second::deck::{block_check, write_deck, BLOCK, LONGEST};
 use std::fs::File;
 use std::io::{Read, Write};
 use std::path::{Path, PathBuf};
@@ -85,24 +86,92 @@ pub fn file(folder: &Path, name: &str, bytes: &[u8]) -> String {
     path.to_string_lossy().into_owned()
 }
 
+/// The deck of these words.
+pub fn deck_of(words: &[u64]) -> Vec<u8> {
+    let mut deck = vec![0; LONGEST];
+    let length = write_deck(words, &mut deck).expect("good words");
+    deck.truncate(length);
+    deck
+}
+
+/// The block's check made right again after a change.
+pub fn mend(deck: &mut [u8], block: usize) {
+    let bytes = &mut deck[BLOCK * block..BLOCK * (block + 1)];
+    let groups = std::array::from_fn(|n| u64::from_be_bytes(bytes[8 * n..8 * n + 8].try_into().expect("a group")));
+    bytes[504..].copy_from_slice(&block_check(&groups).to_be_bytes());
+}
+
+/// Whether the command is on the path.
+pub fn there(compiler: &str) -> bool {
+    let found = Command::new(compiler).arg("--version").output().is_ok();
+    if !found {
+        eprintln!("no {compiler} on the path: not tried");
+    }
+    found
+}
+
+/// The command with a file for its standard input.
+pub fn run_on(path: impl AsRef<Path>, command: &mut Command) -> Said {
+    let input = File::open(path).expect("it opens");
+    let mut child =
+        command.stdin(input).stdout(Stdio::piped()).stderr(Stdio::piped()).spawn().expect("it starts");
+    finished(&mut child)
+}
+
 /// The root command with a standard input that cannot be read: a folder.
 pub fn said_of_a_folder(name: &str) -> Said {
-    let mut child = command(name, &[])
-        .stdin(File::open(root()).expect("a folder opens"))
-        .stdout(Stdio::piped())
-        .stderr(Stdio::piped())
-        .spawn()
-        .expect("it starts");
+    run_on(root(), &mut command(name, &[]))
+}
+
+/// The root command with a file for its standard output.
+pub fn said_to(out: File, name: &str, arguments: &[&str], input: &[u8]) -> Said {
+    let mut child =
+        command(name, arguments).stdin(Stdio::piped()).stdout(out).stderr(Stdio::piped()).spawn().expect("it starts");
+    drop(child.stdin.take().expect("its standard input").write_all(input));
     finished(&mut child)
 }
 
 /// The root command with a standard output that takes nothing.
 pub fn said_to_full(name: &str, arguments: &[&str], input: &[u8]) -> Said {
     let full = File::options().write(true).open("/dev/full").expect("/dev/full");
-    let mut child =
-        command(name, arguments).stdin(Stdio::piped()).stdout(full).stderr(Stdio::piped()).spawn().expect("it starts");
-    drop(child.stdin.take().expect("its standard input").write_all(input));
-    finished(&mut child)
+    said_to(full, name, arguments, input)
+}
+
+/// Reads of the file BROKEN give no more than a block each, and fail after the first so many.
+const READS: &str = "#include <errno.h>
+#include <stdlib.h>
+#include <sys/stat.h>
+#include <sys/syscall.h>
+#include <unistd.h>
+
+ssize_t read(int file, void *room, size_t count) {
+    static int reads;
+    const char *broken = getenv(\"BROKEN\");
+    struct stat this, that;
+    if (!broken || fstat(file, &this) || stat(broken, &that) || this.st_dev != that.st_dev || this.st_ino != that.st_ino)
+        return syscall(SYS_read, file, room, count);
+    if (reads++ >= atoi(getenv(\"READS\"))) {
+        errno = EIO;
+        return -1;
+    }
+    return syscall(SYS_read, file, room, count < 512 ? count : 512);
+}
+";
+
+/// The same reads as a library in the folder, where it can be built and a program runs with it.
+pub fn failing_reads(folder: &Path) -> Option<PathBuf> {
+    if std::env::consts::ARCH != "x86_64" || !there("gcc") {
+        return None;
+    }
+    let (source, library) = (file(folder, "reads.c", READS.as_bytes()), folder.join("reads.so"));
+    let said = run(Command::new("gcc").args(["-Wall", "-Werror", "-D_GNU_SOURCE", "-shared", "-fPIC", &source, "-o"]).arg(&library), &[]);
+    assert!(said.well(), "{}", said.err);
+    Some(library)
+}
+
+/// The command reads this file so often, and then no more.
+pub fn breaking<'a>(command: &'a mut Command, library: &Path, path: &str, reads: u32) -> &'a mut Command {
+    command.env("LD_PRELOAD", library).env("BROKEN", path).env("READS", reads.to_string())
 }
 
 fn finished(child: &mut std::process::Child) -> Said {

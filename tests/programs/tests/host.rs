@@ -4,7 +4,7 @@
 #[path = "../../second/tests/common/mod.rs"]
 mod common;
 
-use programs::{file, folder, root, run, Said};
+use programs::{file, folder, root, run, there, Said};
 use second::panel;
 use std::path::PathBuf;
 use std::process::Command;
@@ -46,15 +46,6 @@ fn shows_the_example(said: &Said) {
 #[test]
 fn the_example_is_built_and_run() {
     shows_the_example(&run(Command::new("sh").arg(root().join("examples/panel/build.sh")), &[]));
-}
-
-/// Whether the command is on the path.
-fn there(compiler: &str) -> bool {
-    let found = Command::new(compiler).arg("--version").output().is_ok();
-    if !found {
-        eprintln!("no {compiler} on the path: not tried");
-    }
-    found
 }
 
 /// A compiler accepts it, with no warning.

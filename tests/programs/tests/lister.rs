@@ -3,28 +3,16 @@
 #[path = "../../second/tests/common/mod.rs"]
 mod common;
 
-use programs::{said, said_of_a_folder, said_to_full, Said};
-use second::deck::{block_check, words_of, write_deck, BLOCK, LONGEST};
+use programs::{
+    breaking, command, deck_of, failing_reads, file, folder, mend, run_on, said, said_of_a_folder, said_to_full, Said,
+};
+use second::deck::{words_of, BLOCK, LONGEST};
 use second::lister::list;
 use second::random::Random;
 use second::shipped::SHIPPED;
 
-fn deck_of(words: &[u64]) -> Vec<u8> {
-    let mut deck = vec![0; LONGEST];
-    let length = write_deck(words, &mut deck).expect("good words");
-    deck.truncate(length);
-    deck
-}
-
 fn good_deck(words: usize) -> Vec<u8> {
     deck_of(&common::draw_words(&mut Random::new(3 + words as u64), words))
-}
-
-/// The block's check made right again after a change.
-fn mend(deck: &mut [u8], block: usize) {
-    let bytes = &mut deck[BLOCK * block..BLOCK * (block + 1)];
-    let groups = std::array::from_fn(|n| u64::from_be_bytes(bytes[8 * n..8 * n + 8].try_into().expect("a group")));
-    bytes[504..].copy_from_slice(&block_check(&groups).to_be_bytes());
 }
 
 /// A deck is listed as the second engine lists it. Decks of all lengths that fill, or just pass, a block are among them.
@@ -43,6 +31,8 @@ fn is_refused(deck: &[u8], number: u8) {
     assert_eq!(words_of(deck), Err(number), "the second engine");
     let said = said("lister", &[], deck);
     assert_eq!(said.text(), format!("REFUSED {number}\n"));
+    assert_eq!(said.err, "lister: the deck is refused; docs/NUMBERS.md has the numbers in words\n");
+    assert_eq!(said.status, Some(1));
 }
 
 #[test]
@@ -81,12 +71,28 @@ fn too_long_an_input_is_refused_by_15() {
 }
 
 fn told(said: &Said, line: &str) {
-    assert_eq!((said.text().as_str(), said.err.as_str()), ("", line));
+    assert_eq!((said.text().as_str(), said.err.as_str(), said.status), ("", line, Some(1)));
 }
 
 #[test]
 fn a_read_that_fails_is_told() {
     told(&said_of_a_folder("lister"), "lister: the input was not read\n");
+}
+
+/// The first block alone would be a deck.
+#[test]
+fn a_read_that_fails_half_way_is_told() {
+    let here = folder("lister");
+    let deck = file(&here, "deck", &good_deck(124));
+    let Some(library) = failing_reads(&here) else {
+        return;
+    };
+    let of = |reads| run_on(&deck, breaking(&mut command("lister", &[]), &library, &deck, reads));
+    told(&of(0), "lister: the input was not read\n");
+    told(&of(1), "lister: the input was not read\n");
+    told(&of(2), "lister: the input was not read\n");
+    // with the read that finds the end, all is well
+    assert_eq!((of(3).text(), of(3).status), (list(&good_deck(124)), Some(0)));
 }
 
 #[test]

@@ -60,23 +60,25 @@ impl Bench {
             folders.insert(0, self.here.join("kit").to_string_lossy().into_owned());
         }
         let mut command = Command::new(command);
-        command.arg("x").env("PATH", folders.join(":"));
+        command.env("PATH", folders.join(":"));
         command
     }
 
     fn lister_at(&self, command: &Path, kit: bool) -> Said {
-        run(&mut self.command_at(command, kit), &[])
+        run(self.command_at(command, kit).arg("x"), &[])
     }
 
     fn lister(&self, kit: bool) -> Said {
         self.lister_at(&self.here.join("lister"), kit)
     }
 
-    /// A repository whose program, once proved, says `first`, and then does this.
+    /// A repository whose program is proved; it says `first`, and then does this.
     fn doing(name: &str, script: &str) -> Bench {
         let bench = Bench::new(name);
         bench.write("crates/deck/file", &format!("first; {script} #"));
-        run(&mut bench.command_at(&bench.here.join("lister"), true), &[]);
+        let mut command = bench.command_at(&bench.here.join("tools/proved"), true);
+        let said = run(command.arg(bench.here.join("target/bin/lister")).args(["rt", "check", "lister"]), &[]);
+        assert_eq!(said.status, Some(0), "{said:?}");
         bench
     }
 

@@ -1,8 +1,9 @@
-//! Single cycles: drawn words, states and storage sizes, by rule and by table.
+//! Single cycles, and the work that would be done in each: drawn words, states and storage sizes, by rule and by table.
 
 use super::draw::{bits, drawn_state, near, word_for, Lent};
-use super::{digest_line, drawn_bytes, mix_bytes, mix_state};
-use crate::cycle::{cycle, cycle_by_table, Answer};
+use super::{digest_line, drawn_bytes, joined, mix_bytes, mix_state};
+use crate::adder::Work;
+use crate::cycle::{cycle, cycle_by_table, next_work, Answer};
 use crate::random::{mix, Random};
 use crate::state::{State, M, N};
 use crate::word::LAYOUT;
@@ -67,6 +68,16 @@ fn answer(engine: Engine, digest: u64, trial: &Trial, store: &[u64], storages: &
     (answer, mix(digest, byte(main, at) * 256 + byte(local, n)))
 }
 
+/// The digest after the work of the next word, or after 0 where it would make no sum.
+fn mix_work(digest: u64, work: Option<Work>) -> u64 {
+    let Some(w) = work else {
+        return mix(digest, 0);
+    };
+    let carry_in = u8::from(w.carry_in);
+    let bytes = [w.a_chosen, w.a_gated, w.b_chosen, w.b_gated, w.b_entering, carry_in, w.before, w.after];
+    mix(mix(digest, 1), joined(&bytes))
+}
+
 // Where an answer is counted; a refusal is at its number.
 const RAN: usize = 100;
 const STOPPED: usize = 101;
@@ -116,6 +127,7 @@ pub fn text() -> String {
             if let Some(word) = store.get_mut(usize::from(trial.state.wx)) {
                 *word = trial.word;
             }
+            digest = mix_work(digest, next_work(&store[..trial.lent.words], &trial.state));
             let (ruled, after) = answer(cycle, digest, &trial, &store, &mut by_rule);
             counts.count(ruled);
             digest = answer(cycle_by_table, after, &trial, &store, &mut by_table).1;
