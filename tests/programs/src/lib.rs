@@ -113,8 +113,7 @@ pub fn there(compiler: &str) -> bool {
 /// The command with a file for its standard input.
 pub fn run_on(path: impl AsRef<Path>, command: &mut Command) -> Said {
     let input = File::open(path).expect("it opens");
-    let mut child =
-        command.stdin(input).stdout(Stdio::piped()).stderr(Stdio::piped()).spawn().expect("it starts");
+    let mut child = command.stdin(input).stdout(Stdio::piped()).stderr(Stdio::piped()).spawn().expect("it starts");
     finished(&mut child)
 }
 
@@ -164,7 +163,12 @@ pub fn failing_reads(folder: &Path) -> Option<PathBuf> {
         return None;
     }
     let (source, library) = (file(folder, "reads.c", READS.as_bytes()), folder.join("reads.so"));
-    let said = run(Command::new("gcc").args(["-Wall", "-Werror", "-D_GNU_SOURCE", "-shared", "-fPIC", &source, "-o"]).arg(&library), &[]);
+    let said = run(
+        Command::new("gcc")
+            .args(["-Wall", "-Werror", "-D_GNU_SOURCE", "-shared", "-fPIC", &source, "-o"])
+            .arg(&library),
+        &[],
+    );
     assert!(said.well(), "{}", said.err);
     Some(library)
 }

@@ -1,5 +1,5 @@
-//! Every name that docs/TRACE.md, PROMISES.md, NEXT.md and SIZE.md cite is declared in the tree; every must-fail edit is
-//! cited, and every public function is in PROMISES.md.
+//! Every name that docs/TRACE.md, PROMISES.md, NEXT.md, DECISIONS.md and SIZE.md cite is declared in the tree; every
+//! must-fail edit is cited, and every public function is in PROMISES.md.
 
 use std::fs;
 use std::path::{Path, PathBuf};
@@ -104,6 +104,11 @@ fn every_name_that_promises_cites_is_declared() {
 #[test]
 fn every_name_that_next_cites_is_declared() {
     holds("NEXT.md", 100);
+}
+
+#[test]
+fn every_name_that_decisions_cites_is_declared() {
+    holds("DECISIONS.md", 10);
 }
 
 #[test]

@@ -9,7 +9,7 @@ use Rattle.lister.proofs.main.Tie as tie
 part-print-end : tie.Need-part-print-end
 part-print-end c =
     let known = c .before .before in
-    omega (arith, rw (known .input .given .1) at (known .before .before .before .read-input .ensures))
+    omega (arith, rw (known .input .given .1) at (known .before .before .before .read .ensures))
 
 part-write-all-end : tie.Need-part-write-all-end
 part-write-all-end c =
@@ -43,4 +43,5 @@ main-spec =
     (λ c. search needs)
     (λ c κs. tt)
     (λ c. search needs)
+    (λ c κs. tt)
     (λ c. search needs))

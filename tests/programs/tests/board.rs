@@ -1,0 +1,837 @@
+//! The board's program: all that it prints of additions, runs, lamps and the walk, byte for byte beside the second engine's
+//! text; and all that it tells on standard error, with the status that its root command ends with.
+
+#[path = "../../second/tests/common/mod.rs"]
+mod common;
+
+use common::{Bench, Codes, STOP};
+use programs::{
+    breaking, command, deck_of, failing_reads, file, folder, mend, root, run, said, said_to, said_to_full, Said,
+};
+use second::board::{self, in_words, View};
+use second::cycle::not_modelled;
+use second::deck::{words_of, BLOCK, LONGEST};
+use second::random::Random;
+use second::run::Ending;
+use second::shipped;
+use second::state::{State, I, J, M, N};
+use second::word::{build, pack, split, CF};
+use std::collections::BTreeSet;
+use std::fs::{self, File};
+use std::path::{Path, PathBuf};
+use std::time::{Duration, Instant};
+
+// ---- what is compared
+
+fn board(arguments: &[&str]) -> Said {
+    said("board", arguments, &[])
+}
+
+/// Both texts, or the first line that differs: they may be long.
+fn same(got: &[u8], expected: &str, what: &[&str]) {
+    if got == expected.as_bytes() {
+        return;
+    }
+    let got = String::from_utf8_lossy(got);
+    let (mut got, mut expected) = (got.split('\n'), expected.split('\n'));
+    let mut line = 1;
+    loop {
+        let (one, other) = (got.next(), expected.next());
+        assert_eq!(one, other, "line {line} of {what:?}");
+        line += 1;
+    }
+}
+
+/// It prints this, and nothing is wrong.
+fn prints(arguments: &[&str], text: &str) {
+    let said = board(arguments);
+    same(&said.out, text, arguments);
+    assert!(said.well(), "{arguments:?}: {} {:?}", said.err, said.status);
+}
+
+/// It prints nothing, and tells this one line.
+fn tells(arguments: &[&str], line: &str) {
+    let said = board(arguments);
+    let told = (said.text(), said.err, said.status);
+    assert_eq!(told, (String::new(), format!("board: {line}\n"), Some(1)), "{arguments:?}");
+}
+
+fn strs(texts: &[String]) -> Vec<&str> {
+    texts.iter().map(String::as_str).collect()
+}
+
+/// FROM and TO of a view, where they leave something out.
+fn bounds(view: &View) -> Vec<String> {
+    let from = (view.from != 0).then(|| format!("FROM={}", view.from));
+    let to = (view.to != u64::MAX).then(|| format!("TO={}", view.to));
+    from.into_iter().chain(to).collect()
+}
+
+/// An addition, as lines or as lamps, prints what the second engine prints.
+fn adds(first: &str, second: &str, carry: Option<bool>, view: &View) {
+    let mut arguments: Vec<String> = ["add", first, second].map(str::to_owned).into();
+    arguments.extend(carry.map(|carry| u8::from(carry).to_string()));
+    arguments.extend(bounds(view));
+    if view.lamps {
+        arguments.insert(0, "lamps".into());
+    }
+    prints(&strs(&arguments), &board::add(first, second, carry == Some(true), view));
+}
+
+const NAMES: [&str; 13] = ["I", "J", "U", "V", "L", "T", "D", "R", "S", "G", "H", "M", "N"];
+
+/// The registers of a state that are not 0.
+fn given(state: &State) -> Vec<String> {
+    let mut given: Vec<String> = NAMES
+        .iter()
+        .zip(state.registers)
+        .filter(|(_, byte)| *byte != 0)
+        .map(|(name, byte)| format!("{name}={byte:02X}"))
+        .collect();
+    if state.wx != 0 {
+        given.push(format!("WX={:03X}", state.wx));
+    }
+    given
+}
+
+/// A deck and an image in a test's own folder.
+struct Files {
+    deck: String,
+    main: String,
+}
+
+fn files(here: &Path, store: &[u64], main: &[u8]) -> Files {
+    Files { deck: file(here, "deck", &deck_of(store)), main: file(here, "main", main) }
+}
+
+/// A run from given registers prints what the second engine prints, and is told where it is refused.
+fn runs(here: &Path, bench: &Bench, budget: u64, view: &View) -> Ending {
+    let Files { deck, main } = files(here, &bench.store, &bench.main);
+    let mut arguments = vec!["run".to_owned(), deck, main, budget.to_string()];
+    arguments.extend(given(&bench.state));
+    arguments.extend(bounds(view));
+    if view.lamps {
+        arguments.insert(0, "lamps".into());
+    }
+    let (text, ending) = board::run(&bench.store, &bench.main, bench.state, budget, view);
+    let said = board(&strs(&arguments));
+    same(&said.out, &text, &strs(&arguments));
+    let told = match ending {
+        Ending::Refused { .. } => ("board: the run was refused\n", Some(1)),
+        _ => ("", Some(0)),
+    };
+    assert_eq!((said.err.as_str(), said.status), told, "{arguments:?}");
+    ending
+}
+
+/// So many words that stop, over 1,024 bytes.
+fn stops(words: usize) -> Bench {
+    let mut bench = Bench::new(words);
+    for address in 0..words {
+        bench.put(address, STOP);
+    }
+    bench
+}
+
+/// Two words that count J up by one and I by three, for ever.
+fn endless() -> Bench {
+    let mut bench = stops(2);
+    bench.then(0, 1, &[("CA", 14), ("CB", 3), ("CK", 1), ("CF", 3), ("CG", 1), ("CD", 14)]);
+    bench.then(1, 0, &[("CA", 15), ("CB", 3), ("CK", 3), ("CF", 3), ("CG", 1), ("CD", 15)]);
+    bench
+}
+
+fn ends_with(said: &Said, line: &str) {
+    assert_eq!(said.text().lines().last(), Some(line));
+}
+
+// ---- additions
+
+fn drawn_digits(random: &mut Random, count: u64, base: u64) -> String {
+    (0..count).map(|_| b"0123456789abcdefABCDEF"[random.below(base) as usize] as char).collect()
+}
+
+/// Every count of digits from 1 to 32, as the first and as the second number.
+#[test]
+fn numbers_of_every_length_are_added() {
+    let random = &mut Random::new(91);
+    for count in 1..=32 {
+        let other = 1 + random.below(32);
+        let [long, short] = [count, other].map(|count| drawn_digits(random, count, 10));
+        let carry = [None, Some(false), Some(true)][random.below(3) as usize];
+        adds(&long, &short, carry, &View::LINES);
+        adds(&short, &long, carry, &View::LINES);
+    }
+}
+
+/// Two digits a byte, as many bytes as the longer number needs: the literal lines, beside the second engine's.
+#[test]
+fn sums_are_printed_with_all_their_digits() {
+    let nines = "9".repeat(32);
+    let zeros = "0".repeat(32);
+    for (first, second, carry, line) in [
+        ("38", "47", None, "38 + 47 = 85 CARRY 0"),
+        ("5", "4", None, "5 + 4 = 09 CARRY 0"),
+        ("5", "5", Some(false), "5 + 5 = 10 CARRY 0"),
+        ("99", "0", Some(true), "99 + 0 = 00 CARRY 1"),
+        ("1", "999", None, "1 + 999 = 1000 CARRY 0"),
+        ("00001", "0", None, "00001 + 0 = 000001 CARRY 0"),
+        (&nines, "0", Some(true), &format!("{nines} + 0 = {zeros} CARRY 1")),
+        ("0", &nines, Some(false), &format!("0 + {nines} = {nines} CARRY 0")),
+        (&nines, &nines, Some(true), &format!("{nines} + {nines} = {nines} CARRY 1")),
+    ] {
+        adds(first, second, carry, &View::LINES);
+        let carry = carry.map(|carry| u8::from(carry).to_string());
+        let arguments: Vec<&str> = ["add", first, second].into_iter().chain(carry.as_deref()).collect();
+        ends_with(&board(&arguments), line);
+    }
+}
+
+/// Digits from A on, large or small, in any place of either number.
+#[test]
+fn bad_digits_are_shown() {
+    for (first, second, line) in [
+        ("A", "1", "A + 1: BAD DIGIT"),
+        ("1", "a", "1 + a: BAD DIGIT"),
+        ("9f99", "1", "9f99 + 1: BAD DIGIT"),
+        ("12345678", "B0000000", "12345678 + B0000000: BAD DIGIT"),
+    ] {
+        adds(first, second, None, &View::LINES);
+        ends_with(&board(&["add", first, second]), line);
+    }
+    let random = &mut Random::new(97);
+    for _ in 0..20 {
+        let [one, other] = [0; 2].map(|_| 1 + random.below(32));
+        let [first, second] = [one, other].map(|count| drawn_digits(random, count, 22));
+        adds(&first, &second, Some(true), &View::LINES);
+    }
+}
+
+// ---- runs
+
+#[test]
+fn the_shipped_deck_runs_as_the_addition_does() {
+    let here = folder("board_shipped");
+    let shipped = said("ship", &[], &[]).out;
+    let mut main = vec![0; 1024];
+    [main[0x100], main[0x200]] = [0x38, 0x47];
+    let (deck, main) = (file(&here, "deck", &shipped), file(&here, "main", &main));
+    let start = shipped::start(0x100, 0x200, 1, false);
+    let registers = given(&start);
+    let arguments = [&["run", &deck, &main, "1000"], &strs(&registers)[..]].concat();
+    let sum = board::add("38", "47", false, &View::LINES);
+    prints(&arguments, sum.strip_suffix("38 + 47 = 85 CARRY 0\n").expect("its last line"));
+}
+
+/// A word of any modelled codes that does not stop.
+fn running_word(random: &mut Random, address: u32) -> u64 {
+    loop {
+        let bits = pack(&common::draw_modelled(random), address).expect("fields in their widths");
+        let word = split(bits);
+        if not_modelled(&word) == 0 && word[CF] != 4 {
+            return bits;
+        }
+    }
+}
+
+fn one_of<T: Copy>(random: &mut Random, values: &[T]) -> T {
+    values[random.below(values.len() as u64) as usize]
+}
+
+/// A bench of which every part that the command line gives is drawn. Half of the stores have nothing but words that run.
+fn drawn(random: &mut Random) -> Bench {
+    let words = one_of(random, &[1, 62, 63, 256, 1000, 4096, 4096]);
+    let mut bench = common::draw_bench(random, words);
+    if random.below(2) == 0 {
+        bench.store = (0..words as u32).map(|address| running_word(random, address)).collect();
+    }
+    let size = one_of(random, &[1, 255, 256, 257, 1024, 65_536, 65_536]);
+    bench.main = common::draw_bytes(random, size);
+    let State { registers, wx, .. } = bench.state;
+    let wx = if random.below(16) == 0 { 0xFFF } else { wx };
+    bench.state = State { wx, registers, ..State::default() };
+    for byte in &mut bench.state.registers {
+        *byte *= u8::from(random.below(2) == 0);
+    }
+    bench
+}
+
+/// The ending's kind, and the number and field of a refusal.
+fn kind(ending: Ending) -> (&'static str, u8, u8) {
+    match ending {
+        Ending::Stopped => ("stopped", 0, 0),
+        Ending::Spent => ("spent", 0, 0),
+        Ending::Refused { number, field } => ("refused", number, field),
+    }
+}
+
+#[test]
+fn drawn_decks_and_images_are_run() {
+    let (random, here) = (&mut Random::new(101), folder("board_drawn"));
+    let mut seen = BTreeSet::new();
+    for _ in 0..120 {
+        let bench = drawn(random);
+        let budget = one_of(random, &[0, 1, 2, 3, 40, 300, 300, 3000]);
+        seen.insert(kind(runs(&here, &bench, budget, &View::LINES)));
+    }
+    for expected in [("stopped", 0, 0), ("spent", 0, 0), ("refused", 2, 0), ("refused", 11, 0)] {
+        assert!(seen.contains(&expected), "{expected:?} of {seen:?}");
+    }
+    assert!(seen.iter().filter(|(_, number, _)| *number == 10).count() > 3, "{seen:?}");
+}
+
+/// Each field that can have a code that is not modelled, in the word at 005, after one that ran.
+#[test]
+fn refusal_10_names_its_field() {
+    let here = folder("board_fields");
+    let codes: [(&str, u8); 10] =
+        [("CH", 4), ("CL", 3), ("CM", 6), ("CU", 1), ("CA", 6), ("AA", 1), ("AK", 1), ("CD", 4), ("CS", 15), ("AS", 1)];
+    for (name, code) in codes {
+        let mut bench = stops(6);
+        bench.then(0, 5, &[]);
+        bench.put(5, &[(name, code)]);
+        assert_eq!(kind(runs(&here, &bench, 2, &View::LINES)).1, 10, "{name}");
+        let Files { deck, main } = files(&here, &bench.store, &bench.main);
+        let line = format!("REFUSED 10 {name} AT 005: a code is not modelled");
+        ends_with(&board(&["run", &deck, &main, "2"]), &line);
+    }
+}
+
+/// What a word's run over so many bytes ends with, as it is written.
+fn ends(here: &Path, codes: Codes, main: &[u8], arguments: &[&str], line: &str) {
+    let mut bench = stops(4);
+    bench.then(0, 1, codes);
+    let Files { deck, main } = files(here, &bench.store, main);
+    ends_with(&board(&[&["run", &deck, &main], arguments].concat()), line);
+}
+
+#[test]
+fn endings_name_the_address() {
+    let here = folder("board_endings");
+    let read: Codes = &[("CM", 3)];
+    ends(&here, &[], &[0], &["9"], "STOPPED AT 001");
+    ends(&here, &[], &[0], &["1"], "SPENT AT 001");
+    ends(&here, &[], &[0], &["0"], "SPENT AT 000");
+    ends(&here, &[], &[0], &["0", "WX=abc"], "SPENT AT ABC");
+    ends(&here, &[], &[0], &["9", "WX=3"], "STOPPED AT 003");
+    ends(&here, &[], &[0], &["9", "WX=4"], "REFUSED 2 AT 004: WX is not in the word store");
+    ends(&here, read, &[7], &["9", "J=0"], "STOPPED AT 001");
+    ends(&here, read, &[7], &["9", "J=1"], "REFUSED 11 AT 000: the main address is not in main storage");
+}
+
+/// The first and the last byte of the smallest and the largest image: both are read.
+#[test]
+fn images_of_every_size_are_read_whole() {
+    let here = folder("board_images");
+    for (size, at) in [(1, 0), (256, 255), (65_535, 65_534), (65_536, 65_535), (65_536, 0)] {
+        let mut bench = stops(2);
+        bench.then(0, 1, &[("CM", 3)]);
+        bench.main = vec![0; size];
+        bench.main[at] = 0xA7;
+        let [high, low] = (at as u16).to_be_bytes();
+        bench.set(&[(I, high), (J, low)]);
+        assert_eq!(runs(&here, &bench, 9, &View::LINES), Ending::Stopped);
+        let Files { deck, main } = files(&here, &bench.store, &bench.main);
+        let said = board(&["run", &deck, &main, "1", &format!("I={high:X}"), &format!("J={low:X}"), "FROM=1"]);
+        assert_eq!(said.text().lines().nth(1).map(|line| &line[73..77]), Some("1 A7"), "{size}");
+    }
+}
+
+/// Each register by its name, with one digit or two, in large letters and small.
+#[test]
+fn each_register_is_given_by_its_name() {
+    let here = folder("board_registers");
+    let bench = endless();
+    let Files { deck, main } = files(&here, &bench.store, &bench.main);
+    let prints_with = |given: &[String], state: State| {
+        let (text, _) = board::run(&bench.store, &bench.main, state, 1, &View::LINES);
+        prints(&[&["run", &deck, &main, "1"], &strs(given)[..]].concat(), &text);
+    };
+    for (place, name) in NAMES.iter().enumerate() {
+        for (text, value) in [("7", 0x07), ("c", 0x0C), ("E0", 0xE0), ("fb", 0xFB), ("00", 0)] {
+            let mut state = State::default();
+            state.registers[place] = value;
+            prints_with(&[format!("{name}={text}")], state);
+        }
+        let mut state = State::default();
+        state.registers[place] = 0xAB;
+        prints_with(&[format!("{}=aB", name.to_lowercase())], state);
+    }
+    for (text, wx) in [("WX=1", 1), ("wx=01", 1), ("Wx=001", 1), ("wX=0", 0)] {
+        prints_with(&[text.to_owned()], State { wx, ..State::default() });
+    }
+    let all: State = State { registers: std::array::from_fn(|place| 0xF1 - place as u8), wx: 1, ..State::default() };
+    let mut given = given(&all);
+    prints_with(&given, all);
+    given.reverse();
+    prints_with(&given, all);
+}
+
+#[test]
+fn a_budget_has_one_to_seven_digits() {
+    let here = folder("board_budgets");
+    let bench = stops(1);
+    let Files { deck, main } = files(&here, &bench.store, &bench.main);
+    let (text, _) = board::run(&bench.store, &bench.main, bench.state, 1, &View::LINES);
+    for budget in ["1", "0000001", "999999", "1000000"] {
+        prints(&["run", &deck, &main, budget], &text);
+    }
+}
+
+// ---- FROM and TO
+
+const EDGES: [(u64, u64); 12] = [
+    (0, 0),
+    (0, 1),
+    (1, 1),
+    (1, u64::MAX),
+    (1, 18),
+    (5, 7),
+    (0, 17),
+    (17, 19),
+    (18, 18),
+    (18, 1_000_000),
+    (19, 19),
+    (1_000_000, 1_000_000),
+];
+
+/// The addition of 38 and 47 has 18 cycles.
+#[test]
+fn only_the_cycles_asked_for_are_shown() {
+    assert!(board(&["add", "38", "47"]).text().lines().any(|line| line.starts_with("     18 00B")));
+    let here = folder("board_edges");
+    for (from, to) in EDGES {
+        for lamps in [false, true] {
+            let view = View { lamps, from, to };
+            adds("38", "47", None, &view);
+            adds("38", "47", Some(true), &view);
+            runs(&here, &endless(), 18, &view);
+        }
+    }
+    runs(&here, &endless(), 0, &View { from: 0, to: 0, ..View::LINES });
+    runs(&here, &endless(), 0, &View { from: 1, to: 1, ..View::LINES });
+}
+
+#[test]
+fn from_and_to_stand_in_either_order_and_in_small_letters() {
+    let text = board::add("38", "47", false, &View { from: 5, to: 7, ..View::LINES });
+    prints(&["add", "38", "47", "TO=7", "FROM=5"], &text);
+    prints(&["add", "38", "47", "from=5", "to=7"], &text);
+    let (here, mut bench) = (folder("board_order"), endless());
+    let Files { deck, main } = files(&here, &bench.store, &bench.main);
+    bench.set(&[(M, 0x11), (N, 0x22)]);
+    let (text, _) = board::run(&bench.store, &bench.main, bench.state, 9, &View { from: 5, to: 7, ..View::LINES });
+    prints(&["run", &deck, &main, "9", "TO=7", "N=22", "FROM=5", "m=11"], &text);
+}
+
+#[test]
+fn from_over_to_is_told() {
+    let here = folder("board_over");
+    let Files { deck, main } = files(&here, &endless().store, &[0]);
+    tells(&["add", "38", "47", "FROM=2", "TO=1"], "FROM is over TO");
+    tells(&["add", "38", "47", "TO=0", "FROM=1"], "FROM is over TO");
+    tells(&["lamps", "add", "38", "47", "1", "FROM=2", "TO=1"], "FROM is over TO");
+    tells(&["run", &deck, &main, "9", "FROM=1000000", "TO=999999"], "FROM is over TO");
+}
+
+// ---- lamps and the walk
+
+#[test]
+fn lamps_show_additions() {
+    for (first, second, carry) in [("38", "47", None), ("999", "1", Some(true)), ("7", "c", Some(false))] {
+        adds(first, second, carry, &View::LAMPS);
+    }
+}
+
+#[test]
+fn lamps_show_runs() {
+    let (random, here) = (&mut Random::new(103), folder("board_lamps"));
+    let mut seen = BTreeSet::new();
+    for _ in 0..40 {
+        let bench = drawn(random);
+        let budget = one_of(random, &[0, 1, 20, 200]);
+        seen.insert(kind(runs(&here, &bench, budget, &View::LAMPS)).0);
+    }
+    assert_eq!(seen, BTreeSet::from(["refused", "spent", "stopped"]));
+}
+
+/// The first picture of P's cycle from J 5D, set out by hand: 5D and 01 are added, and 5E goes to J.
+#[test]
+fn a_picture_is_as_it_was_set_out() {
+    let here = folder("board_picture");
+    let main = file(&here, "main", &[0]);
+    let deck = file(&here, "deck", &deck_of(&[common::P]));
+    let said = board(&["lamps", "run", &deck, &main, "1", "J=5D", "FROM=1"]);
+    let expected = "\
+CYCLE      1 AT 000
+        I        J        U        V        L        T        D        R
+ ........ .*.****. ........ ........ ........ ........ ........ ........
+        S        G        H        M        N        W        X       AC
+ ........ ........ ........ ........ ........ ........ .......*        .
+      1BC       Z0    ALLOW    LOCAL ARRIVING     BYTE
+        .        .        .        .        . ........
+        A  GATED-A        B  GATED-B ENTERS-B CARRY-IN   BEFORE    AFTER
+ .*.***.* .*.***.* ...*...* .......* .......*        . .*.****. .*.****.
+
+SPENT AT 001
+";
+    same(&said.out, expected, &["lamps"]);
+    assert!(said.well());
+}
+
+#[test]
+fn the_walk_lights_each_lamp_alone() {
+    prints(&["walk"], &board::walk());
+    let text = board(&["walk"]).text();
+    let mut lamps = Vec::new();
+    for line in text.lines() {
+        let record: Vec<u8> = line[10..].split_whitespace().map(|byte| u8::from_str_radix(byte, 16).unwrap()).collect();
+        assert_eq!((line.len(), record.len()), (76, 22), "{line}");
+        assert_eq!(record.iter().map(|byte| byte.count_ones()).sum::<u32>(), 1, "{line}");
+        lamps.push((line[..9].trim().to_owned(), record));
+    }
+    let rows: BTreeSet<&String> = lamps.iter().map(|(name, _)| name).collect();
+    let records: BTreeSet<&Vec<u8>> = lamps.iter().map(|(_, record)| record).collect();
+    assert_eq!((rows.len(), records.len(), lamps.len()), (22, 134, 134));
+}
+
+// ---- a million lines
+
+/// On a slow machine, proving aside. It takes a second or two.
+const LONGEST_TIME: Duration = Duration::from_secs(10);
+
+#[test]
+fn a_million_lines_are_soon_written() {
+    let (here, bench) = (folder("board_million"), endless());
+    let Files { deck, main } = files(&here, &bench.store, &bench.main);
+    // the programs are proved before the clock starts
+    board(&["help"]);
+    let (path, start) = (here.join("lines"), Instant::now());
+    let out = File::create(&path).expect("a file");
+    let said = said_to(out, "board", &["run", &deck, &main, "1000000"], &[]);
+    let took = start.elapsed();
+    println!("a million lines took {took:?}");
+    assert!(said.well(), "{said:?}");
+    let (text, ending) = board::run(&bench.store, &bench.main, bench.state, 1_000_000, &View::LINES);
+    assert_eq!((ending, text.lines().count()), (Ending::Spent, 1_000_003));
+    same(&fs::read(&path).expect("the lines"), &text, &["a million"]);
+    fs::remove_file(&path).expect("the lines");
+    assert!(took < LONGEST_TIME, "it took {took:?}");
+}
+
+// ---- usage
+
+#[test]
+fn usage_is_shown_in_each_spelling() {
+    let usage = board(&[]);
+    assert!(usage.well() && !usage.out.is_empty(), "{usage:?}");
+    for spelling in ["help", "-h", "--help"] {
+        prints(&[spelling], &usage.text());
+        tells(&[spelling, "x"], "argument 2 is one too many");
+    }
+}
+
+#[test]
+fn usage_names_all_that_can_be_given() {
+    let usage = board(&["help"]).text();
+    let words: BTreeSet<&str> = usage.split(|c: char| !c.is_ascii_alphanumeric()).collect();
+    for word in ["add", "run", "lamps", "walk", "WX", "FROM", "TO"].iter().chain(&NAMES) {
+        assert!(words.contains(word), "{word}");
+    }
+    for part in ["digits A to F are allowed", "bad-digit ending"] {
+        assert!(usage.contains(part), "{part}");
+    }
+}
+
+// ---- what is told
+
+#[test]
+fn a_missing_argument_is_told_by_its_number() {
+    let here = folder("board_missing");
+    let Files { deck, main } = files(&here, &endless().store, &[0]);
+    let missing = |arguments: &[&str]| {
+        let number = arguments.len() + 1;
+        tells(arguments, &format!("argument {number} is missing; board help shows what is asked"));
+    };
+    for all in [&["add", "38"][..], &["run", &deck, &main], &["lamps", "add", "38"], &["lamps", "run", &deck, &main]] {
+        for count in 1..=all.len() {
+            missing(&all[..count]);
+        }
+    }
+}
+
+#[test]
+fn an_argument_too_many_is_told() {
+    tells(&["walk", "x"], "argument 2 is one too many");
+    tells(&["walk", "walk", "walk"], "argument 2 is one too many");
+    tells(&["help", "add"], "argument 2 is one too many");
+}
+
+#[test]
+fn a_command_that_is_not_there_is_told() {
+    for name in ["frob", "", "ad", "adds", "1", "-x", "FROM=1"] {
+        tells(&[name], "argument 1 is neither add, run, lamps, walk nor help");
+        tells(&[name, "38", "47"], "argument 1 is neither add, run, lamps, walk nor help");
+    }
+    for name in ["walk", "help", "lamps", "", "frob"] {
+        tells(&["lamps", name], "argument 2 is neither add nor run");
+        tells(&["lamps", name, "38", "47"], "argument 2 is neither add nor run");
+    }
+}
+
+#[test]
+fn a_number_that_is_none_is_told() {
+    let long = "1".repeat(33);
+    for number in ["", "G", "3 8", "-1", "+1", "0x38", "3.8", " 38", "38 ", "FROM=1", "é", &long, &"0".repeat(5000)] {
+        tells(&["add", number, "47"], "argument 2 is not a number of 1 to 32 digits");
+        tells(&["add", "38", number], "argument 3 is not a number of 1 to 32 digits");
+        tells(&["lamps", "add", "38", number, "1"], "argument 4 is not a number of 1 to 32 digits");
+    }
+}
+
+#[test]
+fn what_an_addition_does_not_know_is_told() {
+    let neither = |arguments: &[&str], number| {
+        let line = format!("argument {number} is neither FROM=n nor TO=n, nor 0 or 1 for a carry before them");
+        tells(&[&["add", "38", "47"], arguments].concat(), &line);
+        let line = format!("argument {} is neither FROM=n nor TO=n, nor 0 or 1 for a carry before them", number + 1);
+        tells(&[&["lamps", "add", "38", "47"], arguments].concat(), &line);
+    };
+    for argument in ["2", "", "x", "01", "FROM", "FROM=", "FROM=x", "FROM=-1", "TO= 1", "FROM=1A", "I=1", "ROM=1", "=1"]
+    {
+        neither(&[argument], 4);
+        neither(&["1", argument], 5);
+    }
+    neither(&["1", "1"], 5);
+    neither(&["FROM=1", "1"], 5);
+    neither(&["0", "FROM=1", "TO=2", "0"], 7);
+}
+
+/// A run's arguments after a deck, an image and nine cycles, and what it tells of them.
+struct Given {
+    deck: String,
+    main: String,
+}
+
+impl Given {
+    fn new(name: &str) -> Given {
+        let Files { deck, main } = files(&folder(name), &endless().store, &[0]);
+        Given { deck, main }
+    }
+
+    /// By lines and by lamps, where each argument has one before it.
+    fn tells(&self, arguments: &[&str], number: usize, line: &str) {
+        let run = [&["run", &self.deck, &self.main, "9"], arguments].concat();
+        tells(&run, &format!("argument {number} {line}"));
+        tells(&[&["lamps"], &run[..]].concat(), &format!("argument {} {line}", number + 1));
+    }
+}
+
+const NEITHER: &str = "is neither a register and its value, as I=HH or WX=HHH, nor FROM=n nor TO=n";
+
+#[test]
+fn what_a_run_does_not_know_is_told() {
+    let given = Given::new("board_neither");
+    for argument in [
+        "I=001", "I=", "I", "=1", "", "I=G", "I=1 ", "I= 1", " I=1", "I:1", "I==1", "I=-1", "IJ=1", "Q=1", "W=1",
+        "X=1", "AC=1", "WX=", "WX=0000", "WX=00G", "WX", "1", "0", "FROM", "FROM=", "FROM=A", "TO=-1", "from:1",
+    ] {
+        given.tells(&[argument], 5, NEITHER);
+        given.tells(&["J=1", "FROM=1", argument], 7, NEITHER);
+    }
+}
+
+#[test]
+fn what_is_given_twice_is_told() {
+    let given = Given::new("board_twice");
+    let before = "was given before";
+    for name in NAMES {
+        let small = name.to_lowercase();
+        given.tells(&[&format!("{name}=1"), &format!("{name}=1")], 6, before);
+        given.tells(&[&format!("{name}=0"), "WX=0", &format!("{small}=7")], 7, before);
+    }
+    given.tells(&["WX=1", "wx=2"], 6, before);
+    given.tells(&["FROM=0", "FROM=0"], 6, before);
+    given.tells(&["TO=0", "I=1", "to=9"], 7, before);
+    tells(&["add", "38", "47", "FROM=1", "FROM=1"], "argument 5 was given before");
+    tells(&["add", "38", "47", "0", "TO=1", "FROM=1", "TO=1"], "argument 7 was given before");
+}
+
+/// All that can be given, and one more: it has the highest number that can be told, and no more follow from it.
+#[test]
+fn an_argument_has_its_true_number() {
+    let given = Given::new("board_number");
+    let mut all: Vec<String> = NAMES.iter().map(|name| format!("{name}=1")).collect();
+    all.extend(["WX=1", "FROM=1", "TO=1"].map(str::to_owned));
+    let all = strs(&all);
+    let hundred = vec!["I=1"; 100];
+    given.tells(&[&all[..], &["x"]].concat(), 21, NEITHER);
+    given.tells(&[&all[..], &["x"], &hundred].concat(), 21, NEITHER);
+    given.tells(&[&all[..], &hundred].concat(), 21, "was given before");
+    given.tells(&[&hundred[..], &all].concat(), 6, "was given before");
+}
+
+#[test]
+fn a_number_of_cycles_that_is_none_is_told() {
+    let Given { deck, main } = Given::new("board_cycles");
+    for cycles in ["", "x", "-1", "+1", " 1", "1 ", "1A", "1000001", "9999999", "00000001", "10000000", "1e3", "I=1"] {
+        tells(&["run", &deck, &main, cycles], "argument 4 is not a number of cycles up to 1000000");
+        tells(&["lamps", "run", &deck, &main, cycles], "argument 5 is not a number of cycles up to 1000000");
+    }
+}
+
+/// A deck's path, or an image's, among two that are right.
+fn told_of(deck: Option<&str>, main: Option<&str>, given: &Given, line: &str) {
+    let run = ["run", deck.unwrap_or(&given.deck), main.unwrap_or(&given.main), "9"];
+    let number = if deck.is_some() { 2 } else { 3 };
+    tells(&run, &format!("argument {number} {line}"));
+    tells(&[&["lamps"], &run[..]].concat(), &format!("argument {} {line}", number + 1));
+}
+
+#[test]
+fn what_cannot_be_read_is_told() {
+    let given = Given::new("board_unread");
+    let folder = root().to_string_lossy().into_owned();
+    let below_a_file = format!("{}/x", given.main);
+    for path in [folder.as_str(), "/", "", "/no such file", &below_a_file, &"x".repeat(300), &"x/".repeat(3000)] {
+        told_of(Some(path), None, &given, "cannot be read");
+        told_of(None, Some(path), &given, "cannot be read");
+    }
+}
+
+/// The deck of the endless words with one bit turned, the check right again.
+fn turned(bit: usize) -> Vec<u8> {
+    let mut deck = deck_of(&endless().store);
+    deck[8 + 7 - bit / 8] ^= 1 << (bit % 8);
+    mend(&mut deck, 0);
+    deck
+}
+
+/// A first word of these codes, with these bits turned.
+fn deck_with(codes: Codes, bits: u64) -> Vec<u8> {
+    let mut deck = deck_of(&[build(0, codes).expect("a word")]);
+    let word = build(0, codes).expect("a word") ^ bits;
+    deck[8..16].copy_from_slice(&word.to_be_bytes());
+    mend(&mut deck, 0);
+    deck
+}
+
+#[test]
+fn a_refused_deck_is_told_in_words() {
+    let given = Given::new("board_refused");
+    let here = folder("board_refused_decks");
+    let three = deck_of(&common::draw_words(&mut Random::new(107), 3 * 62));
+    let with = |at: usize, byte: u8| {
+        let mut deck = three.clone();
+        deck[at] = byte;
+        deck
+    };
+    let long = vec![0; LONGEST + BLOCK];
+    let module: Codes = &[("CL", 2), ("CA", 4), ("CM", 1)];
+    let decks: [(u8, Vec<u8>); 16] = [
+        (3, turned(63)),
+        (3, turned(55)),
+        (4, turned(48)),
+        (5, turned(47)),
+        (6, turned(20)),
+        (7, turned(0)),
+        // K to W, and PK, with PS right again
+        (8, deck_with(module, 1 << 35 | 1 << 20)),
+        (9, deck_with(module, 1 << 21 | 1 << 20)),
+        (15, Vec::new()),
+        (15, three[..3 * BLOCK - 1].to_vec()),
+        (15, long),
+        (15, vec![0; 1 << 20]),
+        (16, with(2 * BLOCK + 1, 1)),
+        (17, with(2 * BLOCK + 3, 63)),
+        (17, with(7, 1)),
+        (18, with(3 * BLOCK - 1, three[3 * BLOCK - 1] ^ 1)),
+    ];
+    for (number, deck) in decks {
+        assert_eq!(words_of(&deck), Err(number), "the second engine");
+        let deck = file(&here, "deck", &deck);
+        told_of(Some(&deck), None, &given, &format!("is a deck refused by {number}: {}", in_words(number)));
+    }
+}
+
+#[test]
+fn an_image_too_small_or_too_large_is_told() {
+    let given = Given::new("board_sizes");
+    let here = folder("board_sizes_images");
+    for size in [0, 65_537, 65_536 + 512, 1 << 20] {
+        let main = file(&here, "main", &vec![0; size]);
+        told_of(None, Some(&main), &given, "is not an image of 1 to 65536 bytes");
+    }
+}
+
+// ---- reads and writes that fail
+
+fn reads_library() -> Option<PathBuf> {
+    failing_reads(&folder("board_reads"))
+}
+
+/// A read that fails half-way is not the end of the file. The first blocks alone would be a deck, and an image.
+#[test]
+fn a_read_that_fails_half_way_is_told() {
+    let Some(library) = reads_library() else {
+        return;
+    };
+    let here = folder("board_half");
+    let mut bench = stops(3 * 62);
+    bench.then(0, 1, &[("CM", 3)]);
+    bench.main = vec![7; 3 * BLOCK];
+    let Files { deck, main } = files(&here, &bench.store, &bench.main);
+    let (text, _) = board::run(&bench.store, &bench.main, bench.state, 9, &View::LINES);
+    let of = |path: &str, reads| {
+        run(breaking(&mut command("board", &["run", &deck, &main, "9"]), &library, path, reads), &[])
+    };
+    for (path, number) in [(&deck, 2), (&main, 3)] {
+        for reads in 0..4 {
+            let said = of(path, reads);
+            let told = (said.text(), said.err, said.status);
+            let line = format!("board: argument {number} cannot be read\n");
+            assert_eq!(told, (String::new(), line, Some(1)), "{reads} reads of argument {number}");
+        }
+        // the fifth would find the end, if the fourth did not
+        let said = of(path, 5);
+        assert_eq!((said.text(), said.err.as_str(), said.status), (text.clone(), "", Some(0)));
+    }
+}
+
+/// A write that fails is told once, however much there is to write.
+#[test]
+fn a_write_that_fails_is_told_once() {
+    let Given { deck, main } = Given::new("board_full");
+    for arguments in [
+        &[][..],
+        &["help"],
+        &["walk"],
+        &["add", "38", "47"],
+        &["add", "38", "A"],
+        &["lamps", "add", "38", "47"],
+        &["run", &deck, &main, "0"],
+        &["run", &deck, &main, "9"],
+        &["run", &deck, &main, "100000"],
+        &["lamps", "run", &deck, &main, "20000"],
+        &["run", &deck, &main, "100000", "TO=0"],
+    ] {
+        let said = said_to_full("board", arguments, &[]);
+        assert_eq!((said.err.as_str(), said.status), ("board: the output was not written\n", Some(1)), "{arguments:?}");
+    }
+}
+
+/// What is wrong on the command line is told all the same where the output takes nothing.
+#[test]
+fn what_is_told_needs_no_output() {
+    let said = said_to_full("board", &["walk", "x"], &[]);
+    assert_eq!((said.err.as_str(), said.status), ("board: argument 2 is one too many\n", Some(1)));
+}
+
+/// The length is given to the words in L; with the fields' starts, a sum's registers are shown before its first cycle.
+#[test]
+fn the_state_before_the_first_cycle_is_shown() {
+    let said = board(&["add", "1234567", "1", "1", "TO=0"]);
+    let line = said.text().lines().nth(1).map(str::to_owned);
+    let expected = "      0 --- 01 00 02 00 04 00 00 00 10 00 00 00 00 0000  0   0  0  0  0  0 00";
+    assert_eq!(line.as_deref(), Some(expected));
+}
