@@ -16,7 +16,7 @@ pub enum Asked {
 }
 
 // The place of a command's first argument.
-pub fn first_at(lamps: bool) -> usize
+pub(crate) fn first_at(lamps: bool) -> usize
     ensures { λ r. ⌜ r ≤ 3 ⌝ }
 {
     if lamps { 3 } else { 2 }

@@ -11,7 +11,7 @@ pub struct Out {
     pub failed: bool,
 }
 
-pub fn new() -> Out {
+pub(crate) fn new() -> Out {
     Out {
         waiting: 0,
         failed: false,

@@ -1,5 +1,6 @@
 // What is told on standard error. A program has no exit status: the root command gives 1 where anything stands there.
 use libc::STDERR_FILENO;
+use text::Written;
 
 pub fn line(text: &[u8]) {
     io::write_all(STDERR_FILENO, b"board: ");
@@ -20,15 +21,22 @@ pub fn wrong(at: usize, how: &[u8]) {
     io::write_all(STDERR_FILENO, b"\n");
 }
 
-// A deck that is refused.
+fn put_front(bytes: &[u8], size: usize) {
+    if size <= bytes.len() {
+        io::write_all(STDERR_FILENO, &bytes[0..size]);
+    }
+}
+
+// A deck that is refused, in words; none takes more than 64 bytes.
 pub fn refused(at: usize, number: u8) {
     argument(at);
     io::write_all(STDERR_FILENO, b"is a deck refused by ");
     io::print_decimal(STDERR_FILENO, number as u64);
-    let mut words = [b' '; 64];
-    text::words(number, &mut words);
     io::write_all(STDERR_FILENO, b": ");
-    io::write_all(STDERR_FILENO, &words);
+    let mut words = [0u8; 64];
+    if let Written::Text(size) = text::words(number, &mut words) {
+        put_front(&words, size);
+    }
     io::write_all(STDERR_FILENO, b"\n");
 }
 
