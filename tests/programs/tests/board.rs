@@ -18,7 +18,8 @@ use second::state::{State, I, J, M, N};
 use second::word::{build, pack, split, CF};
 use std::collections::BTreeSet;
 use std::fs::{self, File};
-use std::path::{Path, PathBuf};
+use std::path::Path;
+use std::process::Command;
 use std::time::{Duration, Instant};
 
 // ---- what is compared
@@ -27,19 +28,15 @@ fn board(arguments: &[&str]) -> Said {
     said("board", arguments, &[])
 }
 
-/// Both texts, or the first line that differs: they may be long.
+/// They are the same, or the first line that differs is shown: they may be long.
 fn same(got: &[u8], expected: &str, what: &[&str]) {
     if got == expected.as_bytes() {
         return;
     }
     let got = String::from_utf8_lossy(got);
-    let (mut got, mut expected) = (got.split('\n'), expected.split('\n'));
-    let mut line = 1;
-    loop {
-        let (one, other) = (got.next(), expected.next());
-        assert_eq!(one, other, "line {line} of {what:?}");
-        line += 1;
-    }
+    let (got, expected): (Vec<&str>, Vec<&str>) = (got.split('\n').collect(), expected.split('\n').collect());
+    let place = got.iter().zip(&expected).take_while(|(one, other)| one == other).count();
+    panic!("line {place} of {what:?}: {:?} for {:?}", got.get(place), expected.get(place));
 }
 
 /// It prints this, and nothing is wrong.
@@ -205,6 +202,15 @@ fn bad_digits_are_shown() {
         let [first, second] = [one, other].map(|count| drawn_digits(random, count, 22));
         adds(&first, &second, Some(true), &View::LINES);
     }
+}
+
+/// The fields' starts, the length of the longer number in bytes and the carry are where the shipped words want them.
+#[test]
+fn the_state_before_the_first_cycle_is_shown() {
+    let said = board(&["add", "1234567", "1", "1", "TO=0"]);
+    let line = said.text().lines().nth(1).map(str::to_owned);
+    let expected = "      0 --- 01 00 02 00 04 00 00 00 10 00 00 00 00 0000  0   0  0  0  0  0 00";
+    assert_eq!(line.as_deref(), Some(expected));
 }
 
 // ---- runs
@@ -426,8 +432,7 @@ fn from_and_to_stand_in_either_order_and_in_small_letters() {
 
 #[test]
 fn from_over_to_is_told() {
-    let here = folder("board_over");
-    let Files { deck, main } = files(&here, &endless().store, &[0]);
+    let Files { deck, main } = Files::endless("board_over");
     tells(&["add", "38", "47", "FROM=2", "TO=1"], "FROM is over TO");
     tells(&["add", "38", "47", "TO=0", "FROM=1"], "FROM is over TO");
     tells(&["lamps", "add", "38", "47", "1", "FROM=2", "TO=1"], "FROM is over TO");
@@ -547,8 +552,7 @@ fn usage_names_all_that_can_be_given() {
 
 #[test]
 fn a_missing_argument_is_told_by_its_number() {
-    let here = folder("board_missing");
-    let Files { deck, main } = files(&here, &endless().store, &[0]);
+    let Files { deck, main } = Files::endless("board_missing");
     let missing = |arguments: &[&str]| {
         let number = arguments.len() + 1;
         tells(arguments, &format!("argument {number} is missing; board help shows what is asked"));
@@ -607,19 +611,13 @@ fn what_an_addition_does_not_know_is_told() {
     neither(&["0", "FROM=1", "TO=2", "0"], 7);
 }
 
-/// A run's arguments after a deck, an image and nine cycles, and what it tells of them.
-struct Given {
-    deck: String,
-    main: String,
-}
-
-impl Given {
-    fn new(name: &str) -> Given {
-        let Files { deck, main } = files(&folder(name), &endless().store, &[0]);
-        Given { deck, main }
+impl Files {
+    /// The endless words and one byte, in a folder of this name.
+    fn endless(name: &str) -> Files {
+        files(&folder(name), &endless().store, &[0])
     }
 
-    /// By lines and by lamps, where each argument has one before it.
+    /// What is told of arguments after the number of cycles; with `lamps` before it, an argument has one number more.
     fn tells(&self, arguments: &[&str], number: usize, line: &str) {
         let run = [&["run", &self.deck, &self.main, "9"], arguments].concat();
         tells(&run, &format!("argument {number} {line}"));
@@ -631,7 +629,7 @@ const NEITHER: &str = "is neither a register and its value, as I=HH or WX=HHH, n
 
 #[test]
 fn what_a_run_does_not_know_is_told() {
-    let given = Given::new("board_neither");
+    let given = Files::endless("board_neither");
     for argument in [
         "I=001", "I=", "I", "=1", "", "I=G", "I=1 ", "I= 1", " I=1", "I:1", "I==1", "I=-1", "IJ=1", "Q=1", "W=1",
         "X=1", "AC=1", "WX=", "WX=0000", "WX=00G", "WX", "1", "0", "FROM", "FROM=", "FROM=A", "TO=-1", "from:1",
@@ -643,7 +641,7 @@ fn what_a_run_does_not_know_is_told() {
 
 #[test]
 fn what_is_given_twice_is_told() {
-    let given = Given::new("board_twice");
+    let given = Files::endless("board_twice");
     let before = "was given before";
     for name in NAMES {
         let small = name.to_lowercase();
@@ -660,7 +658,7 @@ fn what_is_given_twice_is_told() {
 /// All that can be given, and one more: it has the highest number that can be told, and no more follow from it.
 #[test]
 fn an_argument_has_its_true_number() {
-    let given = Given::new("board_number");
+    let given = Files::endless("board_number");
     let mut all: Vec<String> = NAMES.iter().map(|name| format!("{name}=1")).collect();
     all.extend(["WX=1", "FROM=1", "TO=1"].map(str::to_owned));
     let all = strs(&all);
@@ -673,7 +671,7 @@ fn an_argument_has_its_true_number() {
 
 #[test]
 fn a_number_of_cycles_that_is_none_is_told() {
-    let Given { deck, main } = Given::new("board_cycles");
+    let Files { deck, main } = Files::endless("board_cycles");
     for cycles in ["", "x", "-1", "+1", " 1", "1 ", "1A", "1000001", "9999999", "00000001", "10000000", "1e3", "I=1"] {
         tells(&["run", &deck, &main, cycles], "argument 4 is not a number of cycles up to 1000000");
         tells(&["lamps", "run", &deck, &main, cycles], "argument 5 is not a number of cycles up to 1000000");
@@ -681,7 +679,7 @@ fn a_number_of_cycles_that_is_none_is_told() {
 }
 
 /// A deck's path, or an image's, among two that are right.
-fn told_of(deck: Option<&str>, main: Option<&str>, given: &Given, line: &str) {
+fn told_of(deck: Option<&str>, main: Option<&str>, given: &Files, line: &str) {
     let run = ["run", deck.unwrap_or(&given.deck), main.unwrap_or(&given.main), "9"];
     let number = if deck.is_some() { 2 } else { 3 };
     tells(&run, &format!("argument {number} {line}"));
@@ -690,7 +688,7 @@ fn told_of(deck: Option<&str>, main: Option<&str>, given: &Given, line: &str) {
 
 #[test]
 fn what_cannot_be_read_is_told() {
-    let given = Given::new("board_unread");
+    let given = Files::endless("board_unread");
     let folder = root().to_string_lossy().into_owned();
     let below_a_file = format!("{}/x", given.main);
     for path in [folder.as_str(), "/", "", "/no such file", &below_a_file, &"x".repeat(300), &"x/".repeat(3000)] {
@@ -718,7 +716,7 @@ fn deck_with(codes: Codes, bits: u64) -> Vec<u8> {
 
 #[test]
 fn a_refused_deck_is_told_in_words() {
-    let given = Given::new("board_refused");
+    let given = Files::endless("board_refused");
     let here = folder("board_refused_decks");
     let three = deck_of(&common::draw_words(&mut Random::new(107), 3 * 62));
     let with = |at: usize, byte: u8| {
@@ -756,7 +754,7 @@ fn a_refused_deck_is_told_in_words() {
 
 #[test]
 fn an_image_too_small_or_too_large_is_told() {
-    let given = Given::new("board_sizes");
+    let given = Files::endless("board_sizes");
     let here = folder("board_sizes_images");
     for size in [0, 65_537, 65_536 + 512, 1 << 20] {
         let main = file(&here, "main", &vec![0; size]);
@@ -766,17 +764,13 @@ fn an_image_too_small_or_too_large_is_told() {
 
 // ---- reads and writes that fail
 
-fn reads_library() -> Option<PathBuf> {
-    failing_reads(&folder("board_reads"))
-}
-
 /// A read that fails half-way is not the end of the file. The first blocks alone would be a deck, and an image.
 #[test]
 fn a_read_that_fails_half_way_is_told() {
-    let Some(library) = reads_library() else {
+    let here = folder("board_half");
+    let Some(library) = failing_reads(&here) else {
         return;
     };
-    let here = folder("board_half");
     let mut bench = stops(3 * 62);
     bench.then(0, 1, &[("CM", 3)]);
     bench.main = vec![7; 3 * BLOCK];
@@ -792,8 +786,8 @@ fn a_read_that_fails_half_way_is_told() {
             let line = format!("board: argument {number} cannot be read\n");
             assert_eq!(told, (String::new(), line, Some(1)), "{reads} reads of argument {number}");
         }
-        // the fifth would find the end, if the fourth did not
-        let said = of(path, 5);
+        // with the read that finds the end, all is well
+        let said = of(path, 4);
         assert_eq!((said.text(), said.err.as_str(), said.status), (text.clone(), "", Some(0)));
     }
 }
@@ -801,7 +795,7 @@ fn a_read_that_fails_half_way_is_told() {
 /// A write that fails is told once, however much there is to write.
 #[test]
 fn a_write_that_fails_is_told_once() {
-    let Given { deck, main } = Given::new("board_full");
+    let Files { deck, main } = Files::endless("board_full");
     for arguments in [
         &[][..],
         &["help"],
@@ -820,18 +814,35 @@ fn a_write_that_fails_is_told_once() {
     }
 }
 
+/// The first lines reach a file that may not grow over 64 kilobytes.
+#[test]
+fn a_write_that_fails_half_way_is_told_once() {
+    let (here, bench) = (folder("board_limit"), endless());
+    let Files { deck, main } = files(&here, &bench.store, &bench.main);
+    let (text, _) = board::run(&bench.store, &bench.main, bench.state, 100_000, &View::LINES);
+    let path = here.join("lines");
+    // the programs are proved without the limit
+    board(&["help"]);
+    let mut limited = Command::new("bash");
+    limited.args(["-c", "trap '' XFSZ; ulimit -f 64; exec \"$@\" >\"$0\""]).arg(&path).arg(root().join("board"));
+    let said = run(limited.args(["run", &deck, &main, "100000"]), &[]);
+    assert_eq!((said.err.as_str(), said.status), ("board: the output was not written\n", Some(1)));
+    same(&fs::read(&path).expect("the lines"), &text[..65_536], &["limited"]);
+}
+
+/// Both are told: that the run was refused, and that its text was not written.
+#[test]
+fn a_refused_run_that_is_not_written_is_told_twice() {
+    let Files { deck, main } = Files::endless("board_both");
+    let said = said_to_full("board", &["run", &deck, &main, "9", "WX=9"], &[]);
+    let told: BTreeSet<&str> = said.err.lines().collect();
+    assert_eq!(told, BTreeSet::from(["board: the run was refused", "board: the output was not written"]));
+    assert_eq!((said.err.lines().count(), said.status), (2, Some(1)));
+}
+
 /// What is wrong on the command line is told all the same where the output takes nothing.
 #[test]
 fn what_is_told_needs_no_output() {
     let said = said_to_full("board", &["walk", "x"], &[]);
     assert_eq!((said.err.as_str(), said.status), ("board: argument 2 is one too many\n", Some(1)));
-}
-
-/// The length is given to the words in L; with the fields' starts, a sum's registers are shown before its first cycle.
-#[test]
-fn the_state_before_the_first_cycle_is_shown() {
-    let said = board(&["add", "1234567", "1", "1", "TO=0"]);
-    let line = said.text().lines().nth(1).map(str::to_owned);
-    let expected = "      0 --- 01 00 02 00 04 00 00 00 10 00 00 00 00 0000  0   0  0  0  0  0 00";
-    assert_eq!(line.as_deref(), Some(expected));
 }

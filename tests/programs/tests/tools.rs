@@ -206,7 +206,7 @@ fn files_in(folder: &Path) -> usize {
     fs::read_dir(folder).expect("a folder").count()
 }
 
-/// The file is there, with or without a name: in a folder that is not there the command cannot make it.
+/// Without the folder there is nothing told either: the file was made there.
 #[test]
 fn no_temporary_file_is_left() {
     let (own, mut command) = with_own_folder(&Bench::doing("left", "echo told >&2"));
@@ -223,8 +223,8 @@ fn an_interrupted_command_ends_its_program() {
         let bench = Bench::doing(&format!("interrupted_{signal}"), "echo told >&2; echo $$; exec sleep 60");
         let (own, mut command) = with_own_folder(&bench);
         let mut child = command.stdout(Stdio::piped()).stderr(Stdio::piped()).spawn().expect("it starts");
-        let lines = BufReader::new(child.stdout.take().expect("its output")).lines().map_while(Result::ok);
-        let program = lines.skip(1).next().expect("the program's number");
+        let mut lines = BufReader::new(child.stdout.take().expect("its output")).lines().map_while(Result::ok);
+        let program = lines.nth(1).expect("the program's number");
         let there = || Path::new("/proc").join(&program).exists();
         assert!(there());
         run(Command::new("sh").args(["-c", &format!("kill -{signal} {}", child.id())]), &[]);

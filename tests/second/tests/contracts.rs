@@ -7,13 +7,11 @@ use std::fs;
 use std::path::{Path, PathBuf};
 
 /// What promises less than the whole answer; docs/PROMISES.md says why.
-const NOT_WHOLE: [&str; 38] = [
+const NOT_WHOLE: [&str; 36] = [
     "input:read",
     "board:begin",
     "board:end",
     "board:go",
-    "board:first_at",
-    "board:new",
     "board:flush",
     "board:ready",
     "board:put",
