@@ -8,9 +8,9 @@ use native.Mathlib.Numerals.{add-one}
 use native.Mathlib.Omega.{arith}
 use lib.Count.{ones}
 use lib.Dec.{eqb}
-use lib.ListN.{length, getD, take, drop, replicate, length-append, length-map, length-set, length-replicate, length-take, length-drop, drop-of-length-le}
+use lib.ListN.{length, getD, take, drop, replicate, length-append, length-set, length-take, length-drop, drop-of-length-le}
 use lib.Seq.{drop-cons, take-all}
-use Rattle.digits.specs.Lists.{pieces, joined, inTurn}
+use Rattle.digits.specs.Lists.{joined, inTurn}
 use Rattle.digits.specs.Table.{Each}
 use Rattle.digits.proofs.Lists.{pieces-at, map-at, placed-step}
 use Rattle.digits.proofs.Puts.{Put, put-room}

@@ -1,5 +1,5 @@
 -- Rows of lamps, by the bytes of the record. Assumes nothing.
-use Prim.Native.Nat.{ℕ, suc, _+_, _*_, _<_, _≤_}
+use Prim.Native.Nat.{ℕ, _+_, _*_, _<_, _≤_}
 use mathlib.Core.Path.{_≡_, refl, ap, _∙_}
 use mathlib.Core.Bool.{Bool, true, false, cond, not}
 use mathlib.Core.List.{List, [], _∷_, _++_, map}
@@ -8,7 +8,6 @@ use native.Mathlib.Omega.{arith}
 use lib.Dec.{eqb}
 use lib.ListN.{length, getD, take, drop, drop-of-length-le, length-append}
 use lib.Seq.{drop-cons}
-use Rattle.digits.specs.Bits.{one}
 use Rattle.digits.specs.Lists.{joined}
 use Rattle.adder.specs.declared.Work.{Work}
 use Rattle.machine.specs.declared.State.{State}

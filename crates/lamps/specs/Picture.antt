@@ -1,6 +1,5 @@
 -- A cycle as lamps, eight rows side by side under their names. Assumes nothing.
 use Prim.Native.Nat.{ℕ, zero, suc, _/_, _%_}
-use Prim.Native.String.{String}
 use mathlib.Core.List.{List, [], _∷_, _++_, map}
 use mathlib.Core.Bool.{Bool, cond, not}
 use lib.Dec.{eqb}

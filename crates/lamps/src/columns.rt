@@ -1,10 +1,8 @@
 // A record in columns, and pieces of text one after the other.
 ghost use mathlib.Core.Path.{_≡_};
-ghost use mathlib.Core.List.{map};
-ghost use Prim.Native.Nat.{_+_, _*_, _≤_};
+ghost use Prim.Native.Nat.{_+_, _≤_};
 ghost use lib.ListN.{length};
 ghost use Rattle.digits.specs.Lent.{overAt};
-ghost use Rattle.digits.specs.Lists.{joined};
 ghost use Rattle.channels.specs.Channels.{channels, workChannels};
 ghost use Rattle.text.specs.Text.{hexadecimal};
 ghost use Rattle.lamps.specs.Columns.{cell, byteCells, cells};

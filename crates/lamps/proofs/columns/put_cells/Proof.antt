@@ -1,9 +1,8 @@
 -- One byte a turn: the front that is put, and what is left of the record. Assumes nothing.
-use Prim.Native.Nat.{ℕ, _+_, _-_, _≤_}
-use mathlib.Core.Path.{_≡_, refl, sym, _∙_}
-use native.Mathlib.Nat.{add-sub-cancel-left}
+use Prim.Native.Nat.{_+_, _-_, _≤_}
+use mathlib.Core.Path.{_≡_, _∙_}
 use native.Mathlib.Omega.{arith}
-use lib.ListN.{length, getD, take, drop, length-take, length-drop}
+use lib.ListN.{length, getD, length-take, length-drop}
 use borrow.Author.Needs.{needs}
 use Rattle.digits.proofs.Copies.{over-full}
 use Rattle.digits.proofs.Puts.{Put, put-none, put-turn, put-all}

@@ -1,7 +1,6 @@
 -- 19, or the four pieces. Assumes nothing.
 use mathlib.Core.Path.{refl}
 use mathlib.Core.List.{[], _∷_, _++_}
-use native.Mathlib.Omega.{arith}
 use borrow.Author.Needs.{needs}
 use Rattle.digits.proofs.Puts.{put-none}
 use Rattle.text.proofs.Texts.{too-small}

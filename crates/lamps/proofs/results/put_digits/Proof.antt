@@ -1,12 +1,10 @@
 -- One byte a turn: the front that is put, and the bytes that are left. Assumes nothing.
-use Prim.Native.Nat.{ℕ, _+_, _-_, _*_, _≤_}
+use Prim.Native.Nat.{_+_, _-_, _*_, _≤_}
 use mathlib.Core.Path.{_≡_, refl, _∙_}
-use mathlib.Core.List.{map}
 use native.Mathlib.Nat.{add-sub-cancel-left}
 use native.Mathlib.Omega.{arith}
-use lib.ListN.{length, getD, take, drop, length-take, length-drop, drop-of-length-le}
+use lib.ListN.{length, getD, drop, length-take, length-drop, drop-of-length-le}
 use borrow.Author.Needs.{needs}
-use Rattle.digits.specs.Lists.{joined}
 use Rattle.digits.proofs.Copies.{over-full}
 use Rattle.digits.proofs.Lists.{joined-step}
 use Rattle.digits.proofs.Puts.{Put, put-none, put-turn, put-all}

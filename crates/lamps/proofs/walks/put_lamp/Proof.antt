@@ -1,13 +1,12 @@
 -- The name, the number, the record, and a line feed. Assumes nothing.
-use Prim.Native.Nat.{ℕ, _≤_}
+use Prim.Native.Nat.{_≤_}
 use mathlib.Core.Path.{_≡_, refl, sym, ap, _∙_}
 use mathlib.Core.List.{[], _∷_, _++_}
 use native.Mathlib.Omega.{arith}
-use lib.ListN.{length, take, drop, replicate, length-take, length-drop}
+use lib.ListN.{length, take, drop, length-take, length-drop}
 use borrow.Author.Needs.{needs}
 use Rattle.digits.proofs.Copies.{over-full}
 use Rattle.digits.proofs.Puts.{put-none, put-turn, put-all}
-use Rattle.lamps.specs.Columns.{byteCells}
 use Rattle.lamps.specs.Walk.{rowName, alone, hexBytes, walkLine}
 use Rattle.lamps.proofs.Chain.{then}
 use Rattle.lamps.proofs.Lit.{length-name, length-alone, alone-cells, length-record, length-line}
