@@ -502,7 +502,7 @@ fn the_walk_lights_each_lamp_alone() {
 
 // ---- a million lines
 
-/// On a slow machine, proving aside. It takes a second or two.
+/// For slow machines; elsewhere it takes half a second.
 const LONGEST_TIME: Duration = Duration::from_secs(10);
 
 #[test]
@@ -655,7 +655,7 @@ fn what_is_given_twice_is_told() {
     tells(&["add", "38", "47", "0", "TO=1", "FROM=1", "TO=1"], "argument 7 was given before");
 }
 
-/// All that can be given, and one more: it has the highest number that can be told, and no more follow from it.
+/// All that can be given, and one more. The first that is wrong is told, however many follow: no number is over 22.
 #[test]
 fn an_argument_has_its_true_number() {
     let given = Files::endless("board_number");
