@@ -117,19 +117,12 @@ fn added(view: View, first: &[u8], second: &[u8], carry: bool)
     let out = out::text(said.out, first, &mut room);
     let out = out::text(out, b" + ", &mut room);
     let out = out::text(out, second, &mut room);
-    let out = result(out, &line, text, &mut room);
-    out::flush(out, &room);
-}
-
-fn result(out: Out, line: &[u8], text: Written, room: &mut [u8]) -> Out {
     let Written::Text(size) = text else {
         tell::line(b"the result was not made");
-        return out;
+        return;
     };
-    if line.len() < size {
-        return out;
-    }
-    out::text(out, &line[0..size], room)
+    let out = out::text(out, &line[0..size], &mut room);
+    out::flush(out, &room);
 }
 
 enum CarryIn {

@@ -35,6 +35,7 @@ pub fn flush(out: Out, room: &[u8]) -> Out
         return Out { waiting: 0, ..out };
     }
     if room.len() < end {
+        tell::line(b"the output was not made");
         return Out { waiting: 0, ..out };
     }
     let fine = written(&room[0..end]);
@@ -54,17 +55,21 @@ pub fn ready(out: Out, room: &[u8]) -> Out
     out
 }
 
+fn lost(out: Out) -> Out {
+    tell::line(b"the output was not made");
+    out
+}
+
 // After a text was put where the next is to wait.
 pub fn put(out: Out, text: Written, room: &[u8]) -> Out {
     let Written::Text(size) = text else {
-        tell::line(b"the output was not made");
-        return out;
+        return lost(out);
     };
     if room.len() < out.waiting {
-        return out;
+        return lost(out);
     }
     if room.len() - out.waiting < size {
-        return out;
+        return lost(out);
     }
     Out {
         waiting: out.waiting + size,

@@ -87,13 +87,7 @@ fn with_words(lamps: bool, words: &[u64], at: usize)
     let Number::Is(cycles) = budget(at + 1) else {
         return;
     };
-    front(lamps, words, &mut main, size, cycles, at + 2);
-}
-
-fn front(lamps: bool, words: &[u64], main: &mut [u8], size: usize, budget: u32, first: usize) {
-    if size <= main.len() {
-        over(lamps, words, &mut main[0..size], budget, first);
-    }
+    over(lamps, words, &mut main[0..size], cycles, at + 2);
 }
 
 fn with_deck(lamps: bool, deck: &[u8], words: &mut [u64], at: usize)
@@ -101,11 +95,7 @@ fn with_deck(lamps: bool, deck: &[u8], words: &mut [u64], at: usize)
 {
     match deck::read(deck, words) {
         Reading::Refused(number) => tell::refused(at, number),
-        Reading::Words(count) => {
-            if count <= words.len() {
-                with_words(lamps, &words[0..count], at + 1);
-            }
-        }
+        Reading::Words(count) => with_words(lamps, &words[0..count], at + 1),
     }
 }
 
