@@ -19,7 +19,7 @@ use Rattle.machine.specs.Cycle.{Outcome, outcome}
 use Rattle.run.specs.Run.{ended}
 use Rattle.run.specs.declared.Finished.{Finished}
 use Rattle.run.specs.declared.Ending.the-variants.{Stopped}
-use Rattle.run.proofs.Goes.{Machine, machine, Goes, stops}
+use Rattle.run.proofs.Goes.{Machine, machine, Goes}
 use Rattle.decimal.specs.Program.{shipped}
 use Rattle.decimal.specs.Value.{value, decimalField}
 use Rattle.decimal.specs.Entry.{pastEnd, overlap, addChecks, start, bound, runFor, answeredAt, fromRun, addOf}

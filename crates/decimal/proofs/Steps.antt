@@ -3,7 +3,6 @@ use Prim.Native.Nat.{ℕ, _+_, _<_, _≤_}
 use mathlib.Core.Path.{_≡_, sym, _∙_}
 use mathlib.Core.List.{List}
 use mathlib.Core.Bool.{Bool, true, false}
-use borrow.Author.Tests.{le-ltb}
 use lib.Dec.{leb}
 use Rattle.digits.specs.Bits.{one}
 use lib.ListN.{length, getD}
@@ -14,7 +13,6 @@ use Rattle.word.proofs.Trips.{packed-apart}
 use Rattle.machine.specs.Sources.{entered, sumIn}
 use Rattle.machine.specs.Storage.{accessOf, outside, fetchedOf, mainAfter, localAfter}
 use Rattle.machine.specs.Modelled.{unmodelledOf}
-use Rattle.digits.specs.Sizes.{sizesWrong}
 use Rattle.machine.specs.Cycle.{stops, accessIn, after, ranOf, stepOf, cycleOf}
 use Rattle.machine.specs.declared.State.{State}
 use Rattle.machine.specs.declared.Access.{Access}
@@ -22,9 +20,8 @@ use Rattle.machine.specs.declared.Cycled.the-variants as C
 use Rattle.machine.proofs.Cycles.{on-stop, on-ran, on-apart}
 use Rattle.run.specs.Run.{ended, runOf}
 use Rattle.run.specs.declared.Ending.the-variants.{Stopped}
-use Rattle.run.proofs.Promises.{run-begins}
-use Rattle.run.proofs.Goes.{Machine, machine, Answers, Goes}
-use Rattle.run.proofs.Goes as G
+use Rattle.run.proofs.Goes.{Machine, machine, Answers, Goes, Right, ends}
+use Rattle.run.proofs.Promises.{right-begins}
 
 -- a state of which only this is known: the address, the latch off, nothing arriving, main selected
 abbrev pub idle : ℕ → State → State
@@ -83,10 +80,6 @@ pub record Holds (store : List ℕ) (a : ℕ) (f : Fields) : Type 0 where
   pub inside : leb (length store) a ≡ false
   pub word : packed f a ≡ P.Word (getD store a 0)
 
--- the sizes are right
-abbrev pub Right : List ℕ → Machine → Type 0
-Right store m = sizesWrong (length store) (length (m .main)) (length (m .local)) ≡ false
-
 module _ (store : List ℕ) (a : ℕ) (f : Fields) (w : Holds store a f) (m : Machine) (right : Right store m) (here : m .state .wx ≡ a) where
   by-fields : stepOf f (m .main) (m .local) (m .state) ≡ cycleOf store (m .main) (m .local) (m .state)
   by-fields =
@@ -105,4 +98,4 @@ module _ (store : List ℕ) (a : ℕ) (f : Fields) (w : Holds store a f) (m : Ma
 pub run-stops : (store : List ℕ) (budget k : ℕ) (s : State) (main local : List ℕ) (x : Machine) → Right store (machine s main local) → budget ≤ 1000000
     → Goes store k (machine s main local) x → Halts store x → k < budget → runOf budget store main local s ≡ ended Stopped (x .state) k (x .main) (x .local)
 run-stops store budget k s main local x right most g h less =
-    sym (run-begins budget store main local s (right, (le-ltb 1000000 budget most, tt))) ∙ G.stops g h budget less
+    sym (right-begins budget store (machine s main local) right most) ∙ ends g budget Stopped (less, h)

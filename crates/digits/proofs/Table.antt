@@ -38,6 +38,12 @@ module _ {A : Type 0} (P : A → Type 0) where
   any (x ∷ xs) other e o zero = e .0
   any (x ∷ xs) other e o (suc k) = any xs other (e .1) o k
 
+  -- of the row at a place of the list, whatever the other is
+  pub each-in : (rows : List A) (other : A) → Each P rows → (k : ℕ) → k < length rows → P (getD rows k other)
+  each-in [] other e k h = absurd (not-suc-le-zero h)
+  each-in (x ∷ xs) other e zero h = e .0
+  each-in (x ∷ xs) other e (suc k) h = each-in xs other (e .1) k (le-of-suc-le-suc h)
+
   -- and of each, where it holds of the row at any code
   pub each : (rows : List A) (other : A) → ((k : ℕ) → P (getD rows k other)) → Each P rows
   each [] other h = tt

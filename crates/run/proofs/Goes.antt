@@ -2,10 +2,13 @@
 use Prim.Native.Nat.{ℕ, zero, suc, _+_, _-_, _<_, suc-le-suc}
 use mathlib.Core.Path.{_≡_, refl, sym, ap, subst, _∙_}
 use mathlib.Core.List.{List}
+use mathlib.Core.Bool.{false}
 use native.Mathlib.Nat.{add-zero, suc-add, zero-add, zero-lt-suc}
 use native.Mathlib.Omega.{arith}
+use lib.ListN.{length}
+use Rattle.digits.specs.Sizes.{sizesWrong}
 use Rattle.machine.specs.Cycle.{Outcome, outcome, cycleOf}
-use Rattle.machine.proofs.Promises.{Kept, refusal-keeps, stop-keeps}
+use Rattle.machine.proofs.Promises.{Kept, refusal-keeps, stop-keeps, sizes-stay}
 use Rattle.machine.specs.declared.State.{State}
 use Rattle.machine.specs.declared.Cycled.{Cycled}
 use Rattle.machine.specs.declared.Cycled.the-variants as C
@@ -13,7 +16,7 @@ use Rattle.run.specs.Run.{ended, onward, cyclesOf}
 use Rattle.run.specs.declared.Ending.{Ending}
 use Rattle.run.specs.declared.Ending.the-variants.{Stopped, Refused, Spent}
 use Rattle.run.specs.declared.Finished.{Finished}
-use Rattle.run.proofs.Runs.{turn}
+use Rattle.run.proofs.Runs.{spent, turn}
 
 -- a state with both storages
 pub record Machine : Type 0 where
@@ -37,6 +40,29 @@ pub join : {store : List ℕ} {k n : ℕ} {m x z : Machine} → Goes store k m x
 join here g = rw zero-add g
 join (next a h) g = rw suc-add (next a (join h g))
 
+-- no cycles lead nowhere
+pub goes-none : {store : List ℕ} {n : ℕ} {m x : Machine} → Goes store n m x → n ≡ 0 → x ≡ m
+goes-none here e = refl
+goes-none (next a g) e = absurd (omega arith)
+
+-- what each of them keeps, all keep
+pub goes-keep : {store : List ℕ} {n : ℕ} {m x : Machine} (P : Machine → Type 0) → ((y z : Machine) → Answers store y (C.Ran (z .state)) z → P y → P z)
+    → Goes store n m x → P m → P x
+goes-keep P keeps here p = p
+goes-keep P keeps (next {m = m} {x = x} a g) p = goes-keep P keeps g (keeps m x a p)
+
+-- the sizes are right, and stay so
+abbrev pub Right : List ℕ → Machine → Type 0
+Right store m = sizesWrong (length store) (length (m .main)) (length (m .local)) ≡ false
+
+pub goes-right : {store : List ℕ} {n : ℕ} {m x : Machine} → Goes store n m x → Right store m → Right store x
+goes-right {store} = goes-keep (Right store) still
+  where
+    still : (y z : Machine) → Answers store y (C.Ran (z .state)) z → Right store y → Right store z
+    still y z a right =
+        let same = sizes-stay store (y .main) (y .local) (y .state) in
+        (λ i. sizesWrong (length store) ((ap (λ (o : Outcome Cycled). length (o .main)) a ∙ same .of-main) i) ((ap (λ (o : Outcome Cycled). length (o .local)) a ∙ same .of-local) i)) ∙ right
+
 -- what the last cycle answered, or that the budget is spent
 abbrev pub Ends : List ℕ → ℕ → ℕ → Ending → Machine → Type 0
 Ends store budget n Spent x = n ≡ budget
@@ -57,16 +83,30 @@ goes-on {store} {n} {m} {x} (next {n = i} {x = y} a g) budget k =
     ∙ goes-on g budget (k + 1)
     ∙ ap (λ (j : ℕ). cyclesOf budget store (x .main) (x .local) (x .state) j) c
 
--- a run that comes to a stop
-pub stops : {store : List ℕ} {n : ℕ} {m x : Machine} → Goes store n m x → Answers store x (C.Stopped (x .state)) x → (budget : ℕ) → n < budget
-    → cyclesOf budget store (m .main) (m .local) (m .state) 0 ≡ ended Stopped (x .state) n (x .main) (x .local)
-stops {store} {n} {m} {x} g a budget h =
+-- the run from a machine on, after k cycles
+abbrev pub runFrom : ℕ → ℕ → List ℕ → Machine → Outcome Finished
+runFrom budget k store m = cyclesOf budget store (m .main) (m .local) (m .state) k
+
+-- as long as the budget lasts, what comes next is what the next cycle answers
+comes : {store : List ℕ} {n : ℕ} {m x : Machine} → Goes store n m x → (r : Cycled) → Answers store x r x → (budget : ℕ) → n < budget
+    → runFrom budget 0 store m ≡ onward (cyclesOf (budget - suc n) store) r (x .main) (x .local) n
+comes {store} {n} {m} {x} g r a budget h =
     let e : budget ≡ n + suc (budget - suc n) = omega arith in
     let c : 0 + n ≡ n = omega arith in
-    ap (λ (j : ℕ). cyclesOf j store (m .main) (m .local) (m .state) 0) e
+    ap (λ (j : ℕ). runFrom j 0 store m) e
     ∙ goes-on g (suc (budget - suc n)) 0
-    ∙ turn (budget - suc n) store (x .main) (x .local) (x .state) (0 + n) (C.Stopped (x .state)) (x .main) (x .local) a
-    ∙ ap (λ (j : ℕ). ended Stopped (x .state) j (x .main) (x .local)) c
+    ∙ turn (budget - suc n) store (x .main) (x .local) (x .state) (0 + n) r (x .main) (x .local) a
+    ∙ ap (λ (j : ℕ). onward (cyclesOf (budget - suc n) store) r (x .main) (x .local) j) c
+
+-- n cycles and an ending are the run
+pub ends : {store : List ℕ} {n : ℕ} {m x : Machine} → Goes store n m x → (budget : ℕ) (ending : Ending) → Ends store budget n ending x
+    → runFrom budget 0 store m ≡ ended ending (x .state) n (x .main) (x .local)
+ends {store} {n} {m} {x} g budget Spent e =
+    let all : budget ≡ n + 0 = omega arith in
+    let c : 0 + n ≡ n = omega arith in
+    ap (λ (j : ℕ). runFrom j 0 store m) all ∙ goes-on g 0 0 ∙ spent store (x .main) (x .local) (x .state) (0 + n) ∙ ap (λ (j : ℕ). ended Spent (x .state) j (x .main) (x .local)) c
+ends {store} {n} {m} {x} g budget Stopped (h, a) = comes g (C.Stopped (x .state)) a budget h
+ends {store} {n} {m} {x} g budget (Refused number field) (h, a) = comes g (C.Refused (x .state) number field) a budget h
 
 -- ---- from the run to the cycles
 
@@ -82,11 +122,12 @@ at-once : {store : List ℕ} {budget k : ℕ} {m : Machine} {x : Machine} {endin
 at-once {store} {budget} {k} {m} {x} {ending} e ends =
     record { cycles = 0; counted = sym (add-zero k); goes = subst (λ (z : Machine). Goes store 0 m z) (sym e) here; ends = ends }
 
--- what was left of a run, with the cycle before it
-ends-later : (store : List ℕ) (budget n : ℕ) (ending : Ending) (x : Machine) → Ends store budget n ending x → Ends store (suc budget) (suc n) ending x
-ends-later store budget n Spent x e = ap suc e
-ends-later store budget n Stopped x (h, a) = (suc-le-suc h, a)
-ends-later store budget n (Refused number field) x (h, a) = (suc-le-suc h, a)
+-- what was left of a run, with the k cycles before it
+pub ends-later : (store : List ℕ) (budget n : ℕ) (ending : Ending) (x : Machine) → Ends store budget n ending x
+    → (k more all : ℕ) → more ≡ k + budget → all ≡ k + n → Ends store more all ending x
+ends-later store budget n Spent x e k more all m a = omega arith
+ends-later store budget n Stopped x (h, r) k more all m a = (omega arith, r)
+ends-later store budget n (Refused number field) x (h, r) k more all m a = (omega arith, r)
 
 one-more : {store : List ℕ} {budget k count : ℕ} {m y x : Machine} {ending : Ending} → Answers store m (C.Ran (y .state)) y
     → Done store budget (k + 1) y ending x count → Done store (suc budget) k m ending x count
@@ -95,16 +136,12 @@ one-more {store} {budget} {k} {count} {m} {y} {x} {ending} a d =
       cycles = suc (d .cycles);
       counted = d .counted ∙ omega arith;
       goes = next a (d .goes);
-      ends = ends-later store budget (d .cycles) ending x (d .ends);
+      ends = ends-later store budget (d .cycles) ending x (d .ends) 1 (suc budget) (suc (d .cycles)) (omega arith) (omega arith);
     }
 
 -- where a run stands
 abbrev pub standing : Outcome Finished → Machine
 standing r = machine (r .answer .state) (r .main) (r .local)
-
--- the run from a machine on, after k cycles
-abbrev pub runFrom : ℕ → ℕ → List ℕ → Machine → Outcome Finished
-runFrom budget k store m = cyclesOf budget store (m .main) (m .local) (m .state) k
 
 abbrev pub DoneBy : List ℕ → ℕ → ℕ → Machine → Outcome Finished → Type 0
 DoneBy store budget k m r = Done store budget k m (r .answer .ending) (standing r) (r .answer .count)

@@ -1,3 +1,5 @@
 pub mod Runs
 pub mod Goes
 pub mod Promises
+pub mod Divided
+pub mod Quiet

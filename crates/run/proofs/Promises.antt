@@ -1,10 +1,11 @@
 -- When a run is refused at once, and that no second answer fits. Assumes nothing.
-use Prim.Native.Nat.{ℕ, zero, suc, _+_}
+use Prim.Native.Nat.{ℕ, zero, suc, _≤_}
 use mathlib.Core.Path.{_≡_, refl, sym, ap, subst, _∙_}
 use mathlib.Core.List.{List}
-use mathlib.Core.Bool.{false}
+use mathlib.Core.Bool.{true}
 use mathlib.Core.Logic.{_⊎_, inl, inr, _↔_}
 use native.Mathlib.Omega.{arith}
+use borrow.Author.Tests.{le-ltb}
 use denote.Ref.{now}
 use lib.ListN.{length}
 use Rattle.digits.specs.Refusal.{Check, first, Given}
@@ -14,12 +15,13 @@ use Rattle.digits.proofs.Sole.{sole}
 use Rattle.machine.specs.Cycle.{Outcome, outcome, cycleOf, refusalNumber}
 use Rattle.machine.specs.declared.State.{State}
 use Rattle.machine.specs.declared.Cycled.{Cycled}
-use Rattle.machine.specs.declared.Cycled.the-variants as C
-use Rattle.machine.proofs.Promises.{sizes-stay, never-1, never-22}
-use Rattle.run.specs.Run.{ended, onward, cyclesOf, runChecks, runBy, runOf, endingNumber}
-use Rattle.run.specs.declared.Ending.the-variants.{Refused}
+use Rattle.machine.proofs.Promises.{never-1, never-22}
+use Rattle.run.specs.Run.{ended, cyclesOf, runChecks, runBy, runOf, endingNumber}
+use Rattle.run.specs.declared.Ending.{Ending}
+use Rattle.run.specs.declared.Ending.the-variants.{Stopped, Refused, Spent}
 use Rattle.run.specs.declared.Finished.{Finished}
 use Rattle.run.proofs.Runs.{refused-at-once, begins}
+use Rattle.run.proofs.Goes.{Machine, machine, Goes, here, Right, goes-right, Ends, runFrom, standing, done}
 use Rattle.run.proofs.refusal.Reads as refusal
 use Rattle.run.proofs.run.Reads as run
 use Rattle.run.proofs.run_by_table.Reads as run-by-table
@@ -34,39 +36,54 @@ module _ (budget : ℕ) (store main local : List ℕ) (s : State) where
   pub run-begins : None (runChecks (length store) (length main) (length local) budget) → cyclesOf budget store main local s 0 ≡ runOf budget store main local s
   run-begins g = begins budget store main local s _ refl (none-first (runChecks (length store) (length main) (length local) budget) g)
 
+-- with the sizes right and a budget that may be given, the cycles begin
+pub right-begins : (budget : ℕ) (store : List ℕ) (m : Machine) → Right store m → budget ≤ 1000000 → runFrom budget 0 store m ≡ runOf budget store (m .main) (m .local) (m .state)
+right-begins budget store m right most = run-begins budget store (m .main) (m .local) (m .state) (right, (le-ltb 1000000 budget most, tt))
+
+-- with the sizes wrong it is refused by 1, whatever the budget
+pub wrong-refused : (store main local : List ℕ) (s : State) → sizesWrong (length store) (length main) (length local) ≡ true
+    → (budget : ℕ) → ended (Refused 1 0) s 0 main local ≡ runOf budget store main local s
+wrong-refused store main local s wrong budget = refused-at-once budget store main local s 1 (rw wrong) (λ z. omega arith)
+
+-- whatever its ending, a run is as many single cycles as it counts
+pub run-goes : (budget : ℕ) (store main local : List ℕ) (s : State)
+    → Goes store (runOf budget store main local s .answer .count) (machine s main local) (standing (runOf budget store main local s))
+unfolding runOf
+run-goes budget store main local s = by (first (runChecks (length store) (length main) (length local) budget))
+  where
+    by : (k : ℕ) → Goes store (runBy k budget store main local s .answer .count) (machine s main local) (standing (runBy k budget store main local s))
+    by (suc k) = here
+    by zero =
+        let d = done budget 0 store (machine s main local) in
+        let c = d .counted in
+        let n : d .cycles ≡ runBy 0 budget store main local s .answer .count = omega arith in
+        subst (λ (j : ℕ). Goes store j (machine s main local) (standing (runBy 0 budget store main local s))) n (d .goes)
+
 -- ---- exactly when a run is refused by 1 or 22: no cycle of it gives either
 
 -- 1 or 22
 abbrev AtOnce : ℕ → Type 0
 AtOnce n = (n ≡ 1) ⊎ (n ≡ 22)
 
-no-cycle : (store main local : List ℕ) (s : State) (n : ℕ) → AtOnce n → sizesWrong (length store) (length main) (length local) ≡ false → refusalNumber (cycleOf store main local s .answer) ≡ n → ⊥
-no-cycle store main local s n (inl one) right e = never-1 store main local s right (e ∙ one)
-no-cycle store main local s n (inr last) right e = never-22 store main local s (e ∙ last)
+no-cycle : (store : List ℕ) (m : Machine) (n : ℕ) → AtOnce n → Right store m → refusalNumber (cycleOf store (m .main) (m .local) (m .state) .answer) ≡ n → ⊥
+no-cycle store m n (inl one) right e = never-1 store (m .main) (m .local) (m .state) right (e ∙ one)
+no-cycle store m n (inr last) right e = never-22 store (m .main) (m .local) (m .state) (e ∙ last)
 
 not-0 : (n : ℕ) → AtOnce n → 0 ≡ n → ⊥
 not-0 n (inl one) z = omega arith
 not-0 n (inr last) z = omega arith
 
--- what is left of a run does not come to an ending by n
-abbrev NotBy : ℕ → (List ℕ → List ℕ → State → ℕ → Outcome Finished) → List ℕ → Type 0
-NotBy n rest store = (main local : List ℕ) (s : State) (k : ℕ) → sizesWrong (length store) (length main) (length local) ≡ false → endingNumber (rest main local s k .answer .ending) ≡ n → ⊥
+no-ending : (store : List ℕ) (budget k n : ℕ) → AtOnce n → (ending : Ending) (x : Machine) → Right store x → Ends store budget k ending x → endingNumber ending ≡ n → ⊥
+no-ending store budget k n which Spent x right ends e = not-0 n which e
+no-ending store budget k n which Stopped x right ends e = not-0 n which e
+no-ending store budget k n which (Refused number field) x right ends e =
+    no-cycle store x n which right (ap (λ (o : Outcome Cycled). refusalNumber (o .answer)) (sym (ends .1)) ∙ e)
 
-module _ (store : List ℕ) (n : ℕ) (which : AtOnce n) where
-  no-turn : (rest : List ℕ → List ℕ → State → ℕ → Outcome Finished) → NotBy n rest store → (main local : List ℕ) (s : State) (k : ℕ) → sizesWrong (length store) (length main) (length local) ≡ false
-      → (r : Cycled) → cycleOf store main local s .answer ≡ r → (m l : List ℕ) → sizesWrong (length store) (length m) (length l) ≡ false → endingNumber (onward rest r m l k .answer .ending) ≡ n → ⊥
-  no-turn rest never main local s k right (C.Ran t) is m l still e = never m l t (k + 1) still e
-  no-turn rest never main local s k right (C.Stopped t) is m l still e = not-0 n which e
-  no-turn rest never main local s k right (C.Refused t number field) is m l still e = no-cycle store main local s n which right (ap refusalNumber is ∙ e)
-
-  no-cycles : (budget : ℕ) → NotBy n (cyclesOf budget store) store
-  unfolding cyclesOf
-  no-cycles zero main local s k right e = not-0 n which e
-  no-cycles (suc budget) main local s k right e =
-      let o : Outcome Cycled = cycleOf store main local s in
-      let same = sizes-stay store main local s in
-      no-turn (cyclesOf budget store) (no-cycles budget) main local s k right (o .answer) refl (o .main) (o .local)
-      ((λ i. sizesWrong (length store) (same .of-main i) (same .of-local i)) ∙ right) e
+no-cycles : (store : List ℕ) (budget n : ℕ) → AtOnce n → (m : Machine) → Right store m → endingNumber (runFrom budget 0 store m .answer .ending) ≡ n → ⊥
+no-cycles store budget n which m right e =
+    let r : Outcome Finished = runFrom budget 0 store m in
+    let d = done budget 0 store m in
+    no-ending store budget (d .cycles) n which (r .answer .ending) (standing r) (goes-right (d .goes) right) (d .ends) e
 
 pub run-exactly : (budget : ℕ) (store main local : List ℕ) (s : State) (n : ℕ) → (n ≡ 1) ⊎ (n ≡ 22)
     → (endingNumber (runOf budget store main local s .answer .ending) ≡ n) ↔ Given n (runChecks (length store) (length main) (length local) budget)
@@ -77,7 +94,7 @@ run-exactly budget store main local s n which = (to (first cs) refl, back)
     cs = runChecks (length store) (length main) (length local) budget
 
     to : (k : ℕ) → first cs ≡ k → endingNumber (runBy k budget store main local s .answer .ending) ≡ n → Given n cs
-    to zero none e = absurd (no-cycles store n which budget main local s 0 (first-none cs tt none .0) e)
+    to zero none e = absurd (no-cycles store budget n which (machine s main local) (first-none cs tt none .0) e)
     to (suc k) is e = subst (λ (m : ℕ). Given m cs) e (first-given cs k is)
 
     back : Given n cs → endingNumber (runBy (first cs) budget store main local s .answer .ending) ≡ n

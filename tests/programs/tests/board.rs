@@ -4,18 +4,17 @@
 #[path = "../../second/tests/common/mod.rs"]
 mod common;
 
-use common::{Bench, Codes, STOP};
+use common::{one_of, running_word, Bench, Codes, STOP};
 use programs::{
     breaking, command, deck_of, failing_reads, file, folder, mend, root, run, said, said_to, said_to_full, Said,
 };
 use second::board::{self, in_words, View};
-use second::cycle::not_modelled;
 use second::deck::{words_of, BLOCK, LONGEST};
 use second::random::Random;
 use second::run::Ending;
 use second::shipped;
 use second::state::{State, I, J, M, N};
-use second::word::{build, pack, split, CF};
+use second::word::build;
 use std::collections::BTreeSet;
 use std::fs::{self, File};
 use std::path::Path;
@@ -227,21 +226,6 @@ fn the_shipped_deck_runs_as_the_addition_does() {
     let arguments = [&["run", &deck, &main, "1000"], &strs(&registers)[..]].concat();
     let sum = board::add("38", "47", false, &View::LINES);
     prints(&arguments, sum.strip_suffix("38 + 47 = 85 CARRY 0\n").expect("its last line"));
-}
-
-/// A word of any modelled codes that does not stop.
-fn running_word(random: &mut Random, address: u32) -> u64 {
-    loop {
-        let bits = pack(&common::draw_modelled(random), address).expect("fields in their widths");
-        let word = split(bits);
-        if not_modelled(&word) == 0 && word[CF] != 4 {
-            return bits;
-        }
-    }
-}
-
-fn one_of<T: Copy>(random: &mut Random, values: &[T]) -> T {
-    values[random.below(values.len() as u64) as usize]
 }
 
 /// A bench of which every part that the command line gives is drawn. Half of the stores have nothing but words that run.

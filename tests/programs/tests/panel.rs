@@ -4,9 +4,10 @@
 #[path = "../../second/tests/common/mod.rs"]
 mod common;
 
+use common::{any_word, each_occurs, lent, lent_to_go_on, one_of, Bench, Kind, Lent};
 use programs::{folder, root, run, Said};
 use second::deck::{block_check, write_deck, BLOCK, LONGEST};
-use second::panel;
+use second::panel::{self, RAN, REFUSED, SPENT, STOPPED};
 use second::random::Random;
 use second::word::{build, index_of, pack, Fields, GIVEN, LAYOUT};
 use std::collections::BTreeSet;
@@ -152,12 +153,13 @@ static DRIVER: LazyLock<PathBuf> = LazyLock::new(|| {
     program
 });
 
-/// Every call is answered as the second engine answers it, and a refusal changes no lent byte. Gives the answers.
-fn agree(calls: &[Call]) -> Vec<u64> {
+/// Every call is answered as the second engine answers it, and a refusal changes no lent byte. Gives the answers, and the
+/// calls with all that was lent as it is left.
+fn left(calls: &[Call]) -> Vec<(u64, Call)> {
     let asked: Vec<u8> = calls.iter().flat_map(Call::asked).collect();
     let Said { out, err, status } = run(Command::new(root().join("tools/x86")).arg(&*DRIVER), &asked);
     let mut rest = out.as_slice();
-    let mut answers = Vec::new();
+    let mut left = Vec::new();
     for (place, call) in calls.iter().enumerate() {
         let mut after = call.clone();
         let answer = after.make();
@@ -169,10 +171,15 @@ fn agree(calls: &[Call]) -> Vec<u64> {
             "call {place} is refused, and changes {call:?}"
         );
         rest = others;
-        answers.push(answer);
+        left.push((answer, after));
     }
     assert_eq!((rest.len(), status), (0, Some(0)), "{err}");
-    answers
+    left
+}
+
+/// The answers alone.
+fn agree(calls: &[Call]) -> Vec<u64> {
+    left(calls).into_iter().map(|(answer, _)| answer).collect()
 }
 
 fn difference(place: usize, call: &Call, got: &[u8], expected: &[u8]) -> String {
@@ -185,31 +192,11 @@ fn refusals(answers: &[u64], at: u32) -> BTreeSet<u64> {
     answers.iter().map(|answer| answer >> at & 0xFF).filter(|number| *number != 0).collect()
 }
 
-/// One of some values.
-fn one_of<T: Copy>(random: &mut Random, values: &[T]) -> T {
-    values[random.below(values.len() as u64) as usize]
-}
-
 fn bytes(random: &mut Random, count: usize) -> Vec<u8> {
     common::draw_bytes(random, count)
 }
 
 const ADDRESSES: [u32; 6] = [0, 1, 2047, 4095, 4096, u32::MAX];
-
-/// A word that is right at the address, or has a bit turned, or was packed for another, or is any number.
-fn any_word(random: &mut Random, address: u32) -> u64 {
-    let fields = if random.below(2) == 0 { common::draw_modelled(random) } else { common::draw_fields(random) };
-    let word = pack(&fields, address % 4096).expect("fields in their widths");
-    match random.below(8) {
-        0 => word ^ 1 << random.below(64),
-        1 => pack(&fields, random.below(4096) as u32).expect("fields in their widths"),
-        // CA and K to W, and PK wrong, under a right PS.
-        2 => word ^ 1 << 35 ^ 1 << 20,
-        3 => word ^ 1 << 21 ^ 1 << 20,
-        4 => random.next(),
-        _ => word,
-    }
-}
 
 #[test]
 fn words_are_taken_apart() {
@@ -253,54 +240,6 @@ fn words_are_packed() {
     assert!(answers.contains(&0));
 }
 
-/// A store of words of any kind, and storages and a record for it, of which a size is seldom wrong.
-struct Lent {
-    store: Vec<u64>,
-    main: Vec<u8>,
-    local: Vec<u8>,
-    state: Vec<u8>,
-}
-
-fn lent(random: &mut Random, stray: u64) -> Lent {
-    let mut words = one_of(random, &[1, 2, 16, 64, 256, 257]);
-    let mut main = one_of(random, &[1, 255, 256, 257, 1024, 1024, 1024, 1024]);
-    let (mut local, mut room) = (256, one_of(random, &[22, 22, 22, 22, 22, 23, 40]));
-    match random.below(128) {
-        0 => words = 0,
-        1 => words = 4097,
-        2 => main = 0,
-        3 => main = 65537,
-        4 => local = 255,
-        5 => local = 257,
-        6 => room = 21,
-        7 => room = 0,
-        8 => words = 4096,
-        9 => main = 65536,
-        _ => (),
-    }
-    let word = |random: &mut Random, address: u32| {
-        if random.below(stray) == 0 {
-            any_word(random, address)
-        } else {
-            pack(&common::draw_modelled(random), address % 4096).expect("fields in their widths")
-        }
-    };
-    let store = (0..words).map(|address| word(random, address as u32)).collect();
-    let mut state = bytes(random, room);
-    if let Some(record) = state.first_chunk_mut::<22>() {
-        // WX mostly in the store, and addresses mostly near the ends of a page.
-        let wx = if random.below(16) == 0 { random.next() as u16 } else { random.below(words.max(1)) as u16 };
-        record[13..15].copy_from_slice(&wx.to_be_bytes());
-        for high in [0, 2, 4, 11] {
-            record[high] = one_of(random, &[0, 0, 1, 3, 255]);
-        }
-        for latch in &mut record[15..21] {
-            *latch = one_of(random, &[0, 0, 1, 7, 255]);
-        }
-    }
-    Lent { store, main: bytes(random, main), local: bytes(random, local), state }
-}
-
 #[test]
 fn single_cycles() {
     let random = &mut Random::new(79);
@@ -318,6 +257,32 @@ fn single_cycles() {
     assert_eq!(fields, BTreeSet::from([0, 4, 5, 6, 7, 8, 9, 12, 15, 20, 21]));
 }
 
+fn cycle_of(case: &Lent) -> Call {
+    let Lent { store, main, local, state } = case.clone();
+    Call::Cycle { store, main, local, state }
+}
+
+fn run_of(case: &Lent, budget: u32) -> Call {
+    let Lent { store, main, local, state } = case.clone();
+    Call::Run { store, main, local, state, budget }
+}
+
+/// What a cycle or a run was lent.
+fn lent_to(call: Call) -> Lent {
+    match call {
+        Call::Cycle { store, main, local, state } | Call::Run { store, main, local, state, .. } => {
+            Lent { store, main, local, state }
+        }
+        other => panic!("no state is lent to {other:?}"),
+    }
+}
+
+/// A run that no word ends.
+fn endless() -> Lent {
+    let Bench { store, main, local, .. } = Bench::endless();
+    Lent { store, main, local, state: vec![0; 22] }
+}
+
 #[test]
 fn runs() {
     let random = &mut Random::new(83);
@@ -328,18 +293,168 @@ fn runs() {
             Call::Run { store, main, local, state, budget: one_of(random, &budgets) }
         })
         .collect();
-    // A word that counts J up and goes on to itself.
-    let mut bench = common::Bench::new(1);
-    bench.put(0, &[("CA", 14), ("CB", 3), ("CK", 1), ("CD", 14), ("CF", 3), ("CG", 1)]);
     for budget in [0, 1, 999_999, 1_000_000, 1_000_001] {
-        let (store, main, local) = (bench.store.clone(), bench.main.clone(), bench.local.clone());
-        calls.push(Call::Run { store, main, local, state: vec![0; 22], budget });
+        calls.push(run_of(&endless(), budget));
     }
     let answers = agree(&calls);
     assert!(refusals(&answers, 8).is_superset(&BTreeSet::from([1, 2, 10, 11, 19, 22])));
     let kinds: BTreeSet<u64> = answers.iter().map(|answer| answer & 0xFF).collect();
     assert_eq!(kinds, BTreeSet::from([1, 2, 3]));
     assert!(answers.contains(&(1_000_000 << 32 | 3)), "the longest run");
+}
+
+/// Of any sizes and words, and some whose runs go on.
+fn draw_cases(random: &mut Random) -> Vec<Lent> {
+    (0..1600).map(|place| if place % 8 == 0 { lent_to_go_on(random) } else { lent(random, 30) }).collect()
+}
+
+/// A run of each: what it answers, and what it leaves.
+fn run_each<'a>(cases: impl Iterator<Item = (&'a Lent, u32)>) -> Vec<(u64, Lent)> {
+    let calls: Vec<Call> = cases.map(|(case, budget)| run_of(case, budget)).collect();
+    left(&calls).into_iter().map(|(answer, call)| (answer, lent_to(call))).collect()
+}
+
+/// A case whose single-cycle button is pressed.
+struct Pressed {
+    found: Lent,
+    presses: usize,
+    /// As the last press left it.
+    now: Lent,
+    answers: Vec<u64>,
+}
+
+/// A press for each that has one to come, on what the press before has left.
+fn press(cases: &mut [Pressed]) {
+    let pressed: Vec<&mut Pressed> = cases.iter_mut().filter(|case| case.answers.len() < case.presses).collect();
+    let calls: Vec<Call> = pressed.iter().map(|case| cycle_of(&case.now)).collect();
+    for (case, (answer, call)) in pressed.into_iter().zip(left(&calls)) {
+        case.now = lent_to(call);
+        case.answers.push(answer);
+    }
+}
+
+const MOST_PRESSES: usize = 36;
+
+/// Each case pressed as often as is drawn.
+fn press_all(random: &mut Random, found: Vec<Lent>) -> Vec<Pressed> {
+    let begun = |found: Lent| {
+        let presses = random.below(MOST_PRESSES as u64 + 1) as usize;
+        Pressed { now: found.clone(), found, presses, answers: Vec::new() }
+    };
+    let mut cases: Vec<Pressed> = found.into_iter().map(begun).collect();
+    for _ in 0..MOST_PRESSES {
+        press(&mut cases);
+    }
+    cases
+}
+
+/// The kind, the refusal's number and its field.
+fn ending(answer: u64) -> u64 {
+    answer & 0xFFFF_FFFF
+}
+
+fn cycles(answer: u64) -> u64 {
+    answer >> 32
+}
+
+/// What one run of as many cycles answered and left is what the presses did.
+fn are_a_run(case: &Pressed, answer: u64, left: &Lent) {
+    assert_eq!(case.answers.len(), case.presses);
+    assert!(*left == case.now, "the run leaves other bytes than the presses, which answered {:X?}", case.answers);
+    assert_eq!(cycles(answer), case.answers.iter().filter(|answer| **answer == RAN).count() as u64);
+    match case.answers.last() {
+        Some(&last) => assert_eq!(ending(answer), if last == RAN { SPENT } else { last }),
+        None => assert!(*left == case.found, "a run of none changes something"),
+    }
+}
+
+/// Refused by this number.
+fn is_refused(answer: u64, number: u64) -> bool {
+    answer & 0xFFFF == REFUSED + 256 * number
+}
+
+/// A latch byte of the record is neither 0 nor 1.
+fn has_odd_latch(case: &Lent) -> bool {
+    case.state.len() >= panel::STATE && case.state[15..21].iter().any(|latch| *latch > 1)
+}
+
+/// By the case, and what its run answered.
+const BUTTONS: [Kind<(Pressed, u64)>; 11] = [
+    ("no press", |(case, _)| case.presses == 0),
+    ("all ran", |(_, run)| ending(*run) == SPENT && cycles(*run) > 9),
+    ("stopped at once", |(_, run)| *run == STOPPED),
+    ("stopped later", |(_, run)| ending(*run) == STOPPED && cycles(*run) > 0),
+    ("refused by 1", |(case, run)| is_refused(*run, 1) && case.presses > 0),
+    ("refused by 19", |(case, run)| is_refused(*run, 19) && case.presses > 0),
+    ("refused at once by 10", |(_, run)| is_refused(*run, 10) && cycles(*run) == 0),
+    ("refused later by 10", |(_, run)| is_refused(*run, 10) && cycles(*run) > 0),
+    ("refused later by 11", |(_, run)| is_refused(*run, 11) && cycles(*run) > 0),
+    ("an odd latch, and cycles ran", |(case, run)| has_odd_latch(&case.found) && cycles(*run) > 0),
+    ("an odd latch, and none ran", |(case, run)| has_odd_latch(&case.found) && cycles(*run) == 0),
+];
+
+#[test]
+fn buttons() {
+    let random = &mut Random::new(137);
+    let found = draw_cases(random);
+    let cases = press_all(random, found);
+    let runs = run_each(cases.iter().map(|case| (&case.found, case.presses as u32)));
+    for (case, (answer, left)) in cases.iter().zip(&runs) {
+        are_a_run(case, *answer, left);
+    }
+    let answers = runs.into_iter().map(|(answer, _)| answer);
+    each_occurs(&BUTTONS, &cases.into_iter().zip(answers).collect::<Vec<_>>());
+}
+
+/// Two runs, the second on what the first left: their budgets, and what they answered.
+struct Division {
+    budgets: [u32; 2],
+    answers: [u64; 2],
+}
+
+fn is_refused_later(answer: u64) -> bool {
+    answer & 0xFF == REFUSED && cycles(answer) > 0
+}
+
+const DIVISIONS: [Kind<Division>; 12] = [
+    ("both are spent", |case| case.answers.iter().all(|run| ending(*run) == SPENT && cycles(*run) > 0)),
+    ("the first stops at once", |case| case.answers[0] == STOPPED),
+    ("the first stops later", |case| ending(case.answers[0]) == STOPPED && cycles(case.answers[0]) > 0),
+    ("the second stops later", |case| ending(case.answers[1]) == STOPPED && cycles(case.answers[1]) > 0),
+    ("the first is refused by 1", |case| is_refused(case.answers[0], 1)),
+    ("the first is refused by 19", |case| is_refused(case.answers[0], 19)),
+    ("the first is refused at once by 10", |case| is_refused(case.answers[0], 10) && cycles(case.answers[0]) == 0),
+    ("the first is refused later", |case| is_refused_later(case.answers[0])),
+    ("a later refusal is met again", |case| is_refused_later(case.answers[0]) && case.budgets[1] > 0),
+    ("the second is refused later", |case| is_refused_later(case.answers[1])),
+    ("the first is of 0", |case| case.budgets[0] == 0 && cycles(case.answers[1]) > 0),
+    ("the second is of 0", |case| case.budgets[1] == 0 && cycles(case.answers[0]) > 0),
+];
+
+/// What the one run of both budgets answered and left is what the two did.
+fn are_one_run(case: &Division, left: &Lent, answer: u64, whole: &Lent) {
+    let Division { budgets, answers: [first, second] } = case;
+    assert!(left == whole, "divided as {budgets:?}, other bytes are left");
+    assert_eq!(cycles(answer), cycles(*first) + cycles(*second), "{budgets:?}");
+    assert_eq!(ending(answer), ending(if budgets[1] == 0 { *first } else { *second }), "{budgets:?}");
+}
+
+#[test]
+fn divided_runs() {
+    let random = &mut Random::new(139);
+    let mut cases: Vec<(Lent, [u32; 2])> =
+        draw_cases(random).into_iter().map(|case| (case, common::draw_budgets(random))).collect();
+    cases.extend([0, 1, 999_999, 1_000_000].map(|cut| (endless(), [cut, 1_000_000 - cut])));
+    let first = run_each(cases.iter().map(|(case, budgets)| (case, budgets[0])));
+    let second = run_each(first.iter().zip(&cases).map(|((_, left), (_, budgets))| (left, budgets[1])));
+    let whole = run_each(cases.iter().map(|(case, budgets)| (case, budgets[0] + budgets[1])));
+    let mut divisions = Vec::new();
+    for (place, (_, budgets)) in cases.into_iter().enumerate() {
+        let division = Division { budgets, answers: [first[place].0, second[place].0] };
+        are_one_run(&division, &second[place].1, whole[place].0, &whole[place].1);
+        divisions.push(division);
+    }
+    each_occurs(&DIVISIONS, &divisions);
 }
 
 /// Bytes of good digits, of which one may be spoilt.

@@ -19,10 +19,10 @@ pub const WORK: usize = 8;
 pub const FIELDS: usize = 18;
 
 // enum panel_kind.
-const RAN: u64 = 0;
-const STOPPED: u64 = 1;
-const REFUSED: u64 = 2;
-const SPENT: u64 = 3;
+pub const RAN: u64 = 0;
+pub const STOPPED: u64 = 1;
+pub const REFUSED: u64 = 2;
+pub const SPENT: u64 = 3;
 const SUMMED: u64 = 4;
 const BAD_DIGIT: u64 = 5;
 

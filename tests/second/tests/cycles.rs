@@ -363,20 +363,6 @@ fn a_run_is_so_many_cycles() {
 }
 
 #[test]
-fn budgets_may_be_divided() {
-    let mut random = Random::new(15);
-    for _ in 0..300 {
-        let mut parts = draw_bench(&mut random, 512);
-        let mut whole = parts.clone();
-        let (first, second) = (random.below(20), 1 + random.below(20));
-        let (_, one) = parts.run(first);
-        let (ending, two) = parts.run(second);
-        assert_eq!(whole.run(first + second), (ending, one + two));
-        assert_eq!(parts, whole);
-    }
-}
-
-#[test]
 fn p_counts_j_up() {
     let mut bench = Bench::new(2);
     bench.store[0] = common::P;

@@ -1,11 +1,11 @@
 //! A machine on the bench, and words drawn by the generator.
 #![allow(dead_code)]
 
-use second::cycle::{cycle, Answer};
+use second::cycle::{cycle, not_modelled, Answer, LOCAL_BYTES, MOST_MAIN, MOST_WORDS};
 use second::random::Random;
 use second::run::{run, Ending};
 use second::state::State;
-use second::word::{build, index_of, pack, with_right_pk, Fields, GIVEN, LAYOUT};
+use second::word::{build, index_of, pack, split, with_right_pk, Fields, CF, GIVEN, LAYOUT};
 
 pub type Codes<'a> = &'a [(&'a str, u8)];
 
@@ -39,6 +39,13 @@ impl Bench {
     pub fn one(codes: Codes) -> Bench {
         let mut bench = Bench::new(256);
         bench.put(0, codes);
+        bench
+    }
+
+    /// A word that counts J up and goes on to itself.
+    pub fn endless() -> Bench {
+        let mut bench = Bench::new(1);
+        bench.put(0, &[("CA", 14), ("CB", 3), ("CK", 1), ("CD", 14), ("CF", 3), ("CG", 1)]);
         bench
     }
 
@@ -140,6 +147,44 @@ pub fn draw_modelled(random: &mut Random) -> Fields {
     with_right_pk(fields)
 }
 
+/// One of some values.
+pub fn one_of<T: Copy>(random: &mut Random, values: &[T]) -> T {
+    values[random.below(values.len() as u64) as usize]
+}
+
+/// A word of any modelled codes that does not stop.
+pub fn running_word(random: &mut Random, address: u32) -> u64 {
+    loop {
+        let bits = pack(&draw_modelled(random), address).expect("fields in their widths");
+        let word = split(bits);
+        if not_modelled(&word) == 0 && word[CF] != 4 {
+            return bits;
+        }
+    }
+}
+
+/// A word of any codes that stops.
+fn stop_word(random: &mut Random, address: u32) -> u64 {
+    let mut fields = draw_fields(random);
+    fields[index_of("CF")] = 4;
+    pack(&fields, address).expect("fields in their widths")
+}
+
+/// A word that is right at the address, or has a bit turned, or was packed for another, or is any number.
+pub fn any_word(random: &mut Random, address: u32) -> u64 {
+    let fields = if random.below(2) == 0 { draw_modelled(random) } else { draw_fields(random) };
+    let word = pack(&fields, address % 4096).expect("fields in their widths");
+    match random.below(8) {
+        0 => word ^ 1 << random.below(64),
+        1 => pack(&fields, random.below(4096) as u32).expect("fields in their widths"),
+        // CA and K to W, and PK wrong, under a right PS.
+        2 => word ^ 1 << 35 ^ 1 << 20,
+        3 => word ^ 1 << 21 ^ 1 << 20,
+        4 => random.next(),
+        _ => word,
+    }
+}
+
 pub fn draw_bytes(random: &mut Random, count: usize) -> Vec<u8> {
     (0..count).map(|_| random.next() as u8).collect()
 }
@@ -168,4 +213,88 @@ pub fn draw_bench(random: &mut Random, words: usize) -> Bench {
 /// Good words for a deck, one at each address.
 pub fn draw_words(random: &mut Random, count: usize) -> Vec<u64> {
     (0..count).map(|address| pack(&draw_fields(random), address as u32).unwrap()).collect()
+}
+
+/// What a call is lent: a store, both storages, and the panel's record of a state.
+#[derive(Clone, Debug, PartialEq)]
+pub struct Lent {
+    pub store: Vec<u64>,
+    pub main: Vec<u8>,
+    pub local: Vec<u8>,
+    pub state: Vec<u8>,
+}
+
+/// Mostly modelled words, one in `stray` of any kind, and storages and a record for them, of which a size is seldom wrong.
+pub fn lent(random: &mut Random, stray: u64) -> Lent {
+    let mut words = one_of(random, &[1, 2, 16, 64, 256, 257]);
+    let mut main = one_of(random, &[1, 255, 256, 257, 1024, 1024, 1024, 1024]);
+    let (mut local, mut room) = (256, one_of(random, &[22, 22, 22, 22, 22, 23, 40]));
+    match random.below(128) {
+        0 => words = 0,
+        1 => words = 4097,
+        2 => main = 0,
+        3 => main = 65537,
+        4 => local = 255,
+        5 => local = 257,
+        6 => room = 21,
+        7 => room = 0,
+        8 => words = 4096,
+        9 => main = 65536,
+        _ => (),
+    }
+    let word = |random: &mut Random, address: u32| {
+        if random.below(stray) == 0 {
+            any_word(random, address)
+        } else {
+            pack(&draw_modelled(random), address % 4096).expect("fields in their widths")
+        }
+    };
+    let store = (0..words).map(|address| word(random, address)).collect();
+    let state = draw_record(random, room, words.into());
+    Lent { store, main: draw_bytes(random, main), local: draw_bytes(random, local), state }
+}
+
+/// A record in so many bytes: WX mostly in the store, addresses mostly near the ends of a page, latches of any value.
+fn draw_record(random: &mut Random, room: usize, words: u64) -> Vec<u8> {
+    let mut state = draw_bytes(random, room);
+    if let Some(record) = state.first_chunk_mut::<22>() {
+        let wx = if random.below(16) == 0 { random.next() as u16 } else { random.below(words.max(1)) as u16 };
+        record[13..15].copy_from_slice(&wx.to_be_bytes());
+        let highs = [0, 2, 4, 11].map(|place| (place, [0, 0, 1, 3, 255]));
+        let latches = [15, 16, 17, 18, 19, 20].map(|place| (place, [0, 0, 1, 7, 255]));
+        for (place, values) in highs.into_iter().chain(latches) {
+            record[place] = one_of(random, &values);
+        }
+    }
+    state
+}
+
+/// The same for a run that goes on: no next address and no main address is outside, and few words stop or are refused.
+pub fn lent_to_go_on(random: &mut Random) -> Lent {
+    let few = one_of(random, &[8, 64, 512, u64::MAX]);
+    let word = |random: &mut Random, address: u32| match random.below(few) {
+        0 => any_word(random, address),
+        1 => stop_word(random, address),
+        _ => running_word(random, address),
+    };
+    let store = (0..MOST_WORDS as u32).map(|address| word(random, address)).collect();
+    let state = draw_record(random, 22, MOST_WORDS as u64);
+    Lent { store, main: draw_bytes(random, MOST_MAIN), local: draw_bytes(random, LOCAL_BYTES), state }
+}
+
+/// Two budgets, of which either may be 0.
+pub fn draw_budgets(random: &mut Random) -> [u32; 2] {
+    let most = one_of(random, &[2, 4, 40, 400]);
+    [0; 2].map(|_| random.below(most) as u32)
+}
+
+/// What a kind of case is called, and which cases are of it.
+pub type Kind<Case> = (&'static str, fn(&Case) -> bool);
+
+/// Each kind is that of ten cases or more.
+pub fn each_occurs<Case>(kinds: &[Kind<Case>], cases: &[Case]) {
+    for (name, is) in kinds {
+        let count = cases.iter().filter(|case| is(case)).count();
+        assert!(count >= 10, "{name}: {count} of {} cases", cases.len());
+    }
 }

@@ -1,0 +1,162 @@
+-- Budgets may be divided. Assumes nothing.
+use Prim.Native.Nat.{ℕ, zero, suc, _+_, _<_, _≤_}
+use mathlib.Core.Path.{_≡_, refl, sym, ap, subst, _∙_}
+use mathlib.Core.List.{List}
+use mathlib.Core.Bool.{Bool, true, false, cond}
+use mathlib.Core.Logic.{_⊎_, inl, inr}
+use native.Mathlib.Nat.{add-zero, zero-lt-suc}
+use native.Mathlib.Omega.{arith}
+use borrow.Author.Tests.{le-ltb, ne-eqb}
+use lib.Dec.{eqb, ltb}
+use lib.ListN.{length}
+use Rattle.digits.specs.Sizes.{sizesWrong}
+use Rattle.digits.proofs.Truth.{zero-one}
+use Rattle.machine.specs.Cycle.{Outcome}
+use Rattle.machine.specs.declared.State.{State}
+use Rattle.run.specs.Run.{ended, runBy, runOf}
+use Rattle.run.specs.Divided.{BudgetsDivide, EndsAgain}
+use Rattle.run.specs.declared.Ending.{Ending}
+use Rattle.run.specs.declared.Ending.the-variants.{Stopped, Refused, Spent}
+use Rattle.run.specs.declared.Finished.{Finished}
+use Rattle.run.proofs.Runs.{spent}
+use Rattle.run.proofs.Goes.{Machine, machine, here, join, Right, goes-right, Ends, runFrom, ends, ends-later, standing, DoneBy, done}
+use Rattle.run.proofs.Promises.{right-begins, wrong-refused}
+
+-- the answer that two runs make together
+abbrev together : ℕ → Outcome Finished → Outcome Finished → Outcome Finished
+together b first second =
+    ended (cond (eqb b 0) (first .answer .ending) (second .answer .ending)) (second .answer .state) (first .answer .count + second .answer .count) (second .main) (second .local)
+
+-- a run that stopped or was refused did so within its budget, and does so again within any other
+comes-again : (store : List ℕ) (budget n : ℕ) (ending : Ending) (x : Machine) → (ending ≡ Spent → ⊥) → Ends store budget n ending x
+    → (n < budget) × ((more k : ℕ) → k < more → Ends store more k ending x)
+comes-again store budget n Spent x other e = absurd (other refl)
+comes-again store budget n Stopped x other (h, r) = (h, λ more k less. (less, r))
+comes-again store budget n (Refused number field) x other (h, r) = (h, λ more k less. (less, r))
+
+-- ---- the cycles alone: r is the run of the first budget
+
+module _ (store : List ℕ) (a b : ℕ) (m : Machine) (r : Outcome Finished) (d : DoneBy store a 0 m r) where
+  -- it spent its budget: the cycles of q, the second run, follow its own
+  follows : (q : Outcome Finished) → DoneBy store b 0 (standing r) q → r .answer .ending ≡ Spent
+      → runFrom (a + b) 0 store m ≡ ended (q .answer .ending) (q .answer .state) (r .answer .count + q .answer .count) (q .main) (q .local)
+  follows q f e =
+      let all : d .cycles ≡ a = subst (λ (x : Ending). Ends store a (d .cycles) x (standing r)) e (d .ends) in
+      let last = ends-later store b (f .cycles) (q .answer .ending) (standing q) (f .ends) (d .cycles) (a + b) (d .cycles + f .cycles) (omega arith) refl in
+      let cr = d .counted in
+      let cq = f .counted in
+      let c : d .cycles + f .cycles ≡ r .answer .count + q .answer .count = omega arith in
+      ends (join (d .goes) (f .goes)) (a + b) (q .answer .ending) last ∙ ap (λ (n : ℕ). ended (q .answer .ending) (q .answer .state) n (q .main) (q .local)) c
+
+  module _ (other : r .answer .ending ≡ Spent → ⊥) where
+    -- it stopped, or was refused: so is the second at once, at the same word
+    at-once : 0 < b → runFrom b 0 store (standing r) ≡ ended (r .answer .ending) (r .answer .state) 0 (r .main) (r .local)
+    at-once h = ends here b (r .answer .ending) (comes-again store a (d .cycles) (r .answer .ending) (standing r) other (d .ends) .1 b 0 h)
+
+    -- and the whole where the first was
+    no-further : runFrom (a + b) 0 store m ≡ r
+    no-further =
+        let (h, later) = comes-again store a (d .cycles) (r .answer .ending) (standing r) other (d .ends) in
+        let c = d .counted in
+        let n : d .cycles ≡ r .answer .count = omega arith in
+        ends (d .goes) (a + b) (r .answer .ending) (later (a + b) (d .cycles) (omega arith)) ∙ ap (λ (k : ℕ). ended (r .answer .ending) (r .answer .state) k (r .main) (r .local)) n
+
+spent-or-not : (e : Ending) → (e ≡ Spent) ⊎ (e ≡ Spent → ⊥)
+spent-or-not Spent = inl refl
+spent-or-not Stopped = inr (λ z. zero-one cc)
+spent-or-not (Refused number field) = inr (λ z. zero-one cc)
+
+either-way : (z : Bool) (e : Ending) → cond z e e ≡ e
+either-way true e = refl
+either-way false e = refl
+
+-- a second run that ran no cycle from where r stood, and whose ending does not count or is r's
+adds-nothing : (b : ℕ) (r q : Outcome Finished) (e : Ending) → q ≡ ended e (r .answer .state) 0 (r .main) (r .local) → cond (eqb b 0) (r .answer .ending) e ≡ r .answer .ending → together b r q ≡ r
+adds-nothing b r q e none same = ap (together b r) none ∙ λ i. ended (same i) (r .answer .state) (add-zero (r .answer .count) i) (r .main) (r .local)
+
+-- both together are the whole
+in-all : (store : List ℕ) (a b : ℕ) (m : Machine) → together b (runFrom a 0 store m) (runFrom b 0 store (standing (runFrom a 0 store m))) ≡ runFrom (a + b) 0 store m
+in-all store a zero m =
+    let r : Outcome Finished = runFrom a 0 store m in
+    adds-nothing 0 r (runFrom 0 0 store (standing r)) Spent (spent store (r .main) (r .local) (r .answer .state) 0) refl
+    ∙ ap (λ (n : ℕ). runFrom n 0 store m) (sym (add-zero a))
+in-all store a (suc b) m = by (spent-or-not (r .answer .ending))
+  where
+    r : Outcome Finished
+    r = runFrom a 0 store m
+
+    q : Outcome Finished
+    q = runFrom (suc b) 0 store (standing r)
+
+    by : (r .answer .ending ≡ Spent) ⊎ (r .answer .ending ≡ Spent → ⊥) → together (suc b) r q ≡ runFrom (a + suc b) 0 store m
+    by (inl e) =
+        rw (ne-eqb (suc b) 0 (λ z. omega arith)) (sym (follows store a (suc b) m r (done a 0 store m) q (done (suc b) 0 store (standing r)) e))
+    by (inr other) =
+        adds-nothing (suc b) r q (r .answer .ending) (at-once store a (suc b) m r (done a 0 store m) other (zero-lt-suc b)) (either-way (eqb (suc b) 0) (r .answer .ending))
+        ∙ sym (no-further store a (suc b) m r (done a 0 store m) other)
+
+-- ---- with 1 and 22
+
+abbrev runAt : ℕ → List ℕ → Machine → Outcome Finished
+runAt budget store m = runOf budget store (m .main) (m .local) (m .state)
+
+-- a run within the limit is refused by 1, or is its cycles
+module _ (budget : ℕ) (store : List ℕ) (m : Machine) (most : budget ≤ 1000000) (P : Outcome Finished → Type 0) where
+  by-sizes : (sizesWrong (length store) (length (m .main)) (length (m .local)) ≡ true → P (ended (Refused 1 0) (m .state) 0 (m .main) (m .local)))
+      → (Right store m → P (runFrom budget 0 store m)) → P (runAt budget store m)
+  by-sizes wrong right = by (sizesWrong (length store) (length (m .main)) (length (m .local))) refl
+    where
+      by : (b : Bool) → sizesWrong (length store) (length (m .main)) (length (m .local)) ≡ b → P (runAt budget store m)
+      by true e = subst P (wrong-refused store (m .main) (m .local) (m .state) e budget) (wrong e)
+      by false e = subst P (right-begins budget store m e most) (right e)
+
+module _ (a b : ℕ) (store : List ℕ) (m : Machine) (most : a + b ≤ 1000000) where
+  -- the first run, and the second from where it ended
+  abbrev Whole : Outcome Finished → Type 0
+  Whole r = together b r (runAt b store (standing r)) ≡ runAt (a + b) store m
+
+  whole : Whole (runAt a store m)
+  whole = by-sizes a store m (omega arith) Whole wrong right
+    where
+      wrong : sizesWrong (length store) (length (m .main)) (length (m .local)) ≡ true → Whole (ended (Refused 1 0) (m .state) 0 (m .main) (m .local))
+      wrong e =
+          let refused = wrong-refused store (m .main) (m .local) (m .state) e in
+          adds-nothing b _ (runAt b store m) (Refused 1 0) (sym (refused b)) (either-way (eqb b 0) (Refused 1 0)) ∙ refused (a + b)
+
+      right : Right store m → Whole (runFrom a 0 store m)
+      right e =
+          let r : Outcome Finished = runFrom a 0 store m in
+          let still = goes-right (done a 0 store m .goes) e in
+          ap (together b r) (sym (right-begins b store (standing r) still (omega arith))) ∙ in-all store a b m ∙ right-begins (a + b) store m e most
+
+  abbrev Again : Outcome Finished → Type 0
+  Again r = (r .answer .ending ≡ Spent → ⊥) → 0 < b → runAt b store (standing r) ≡ ended (r .answer .ending) (r .answer .state) 0 (r .main) (r .local)
+
+  again : Again (runAt a store m)
+  again = by-sizes a store m (omega arith) Again wrong right
+    where
+      wrong : sizesWrong (length store) (length (m .main)) (length (m .local)) ≡ true → Again (ended (Refused 1 0) (m .state) 0 (m .main) (m .local))
+      wrong e other some = sym (wrong-refused store (m .main) (m .local) (m .state) e b)
+
+      right : Right store m → Again (runFrom a 0 store m)
+      right e other some =
+          let r : Outcome Finished = runFrom a 0 store m in
+          let d = done a 0 store m in
+          sym (right-begins b store (standing r) (goes-right (d .goes) e) (omega arith)) ∙ at-once store a b m r d other some
+
+pub divided : BudgetsDivide
+divided a b store main local s first second total most f g w =
+    record {
+      state = ap (λ (z : Outcome Finished). z .answer .state) e;
+      in-main = ap (λ (z : Outcome Finished). z .main) e;
+      in-local = ap (λ (z : Outcome Finished). z .local) e;
+      count = ap (λ (z : Outcome Finished). z .answer .count) e;
+      ending = ap (λ (z : Outcome Finished). z .answer .ending) e;
+    }
+  where
+    e : together b first second ≡ total
+    e = ap (together b first) g ∙ subst (Whole a b store (machine s main local) most) (sym f) (whole a b store (machine s main local) most) ∙ sym w
+
+pub ends-again : EndsAgain
+ends-again a b store main local s first second most f g other some =
+    g ∙ subst (Again a b store (machine s main local) most) (sym f) (again a b store (machine s main local) most) other (omega (arith, some))
