@@ -1,16 +1,16 @@
 -- What a cycle's answers mean, and that no second answer fits. Assumes nothing.
-use Prim.Native.Nat.{ℕ, zero, suc}
-use mathlib.Core.Path.{_≡_, refl, sym, ap, _∙_}
-use mathlib.Core.List.{List, _∷_, _++_}
+use Prim.Native.Nat.{ℕ, zero, suc, _<_}
+use mathlib.Core.Path.{_≡_, refl, sym, ap, subst, _∙_}
+use mathlib.Core.List.{List, _∷_, _++_, map}
 use mathlib.Core.Bool.{Bool, true, false, cond, not, _&&_}
 use native.Mathlib.Omega.{arith}
 use mathlib.Core.Logic.{_↔_}
 use denote.Ref.{now}
 use borrow.Author.Tests.{le-ltb}
-use lib.Dec.{leb}
+use lib.Dec.{eqb, leb}
 use lib.ListN.{length, set, length-set}
 use Rattle.digits.specs.Refusal.{Check, first, Given}
-use Rattle.digits.proofs.Refusals.{None, none-first, first-none, given-first, first-given, accepts, never}
+use Rattle.digits.proofs.Refusals.{None, none-first, first-none, given-first, first-given, accepts, first-lt, never}
 use Rattle.digits.proofs.Sole.{sole}
 use Rattle.digits.proofs.Table.{each-split}
 use Rattle.digits.proofs.Truth.{zero-one}
@@ -19,9 +19,10 @@ use Rattle.word.specs.Layout.{lineOf, fieldsOf}
 use Rattle.word.specs.Word.{faultChecks, apartChecks, takenApart}
 use Rattle.word.specs.declared.Apart.the-variants as A
 use Rattle.word.specs.declared.Fields.{Fields}
-use Rattle.machine.specs.Cycle.{Outcome, outcome, stops, stepChecks, cycleChecks, wordAt, ranOf, decided, cycleOf, refusalNumber, nextSumOf}
+use Rattle.machine.specs.Cycle.{Outcome, outcome, stops, stepChecks, cycleChecks, wordAt, ranOf, fieldOf, decided, cycleOf, refusalNumber, nextSumOf}
 use Rattle.machine.specs.Sources.{entered, workIn}
 use Rattle.machine.specs.Storage.{mainAddress, accessOf}
+use Rattle.machine.specs.Modelled.{codeRows, rowCheck, unmodelledOf}
 use Rattle.machine.specs.declared.State.{State}
 use Rattle.machine.specs.declared.Access.{Access}
 use Rattle.machine.specs.declared.Cycled.{Cycled}
@@ -169,7 +170,12 @@ pub sizes-stay : (store main local : List ℕ) (s : State) → SameSizes main lo
 unfolding cycleOf
 sizes-stay store main local s = decided-sizes (first (cycleChecks store main local s)) (stops (fieldsOf (wordAt store s))) (fieldsOf (wordAt store s)) main local s
 
--- a store and storages of right sizes: 1 is not given; and 22 is given by no cycle
+-- with wrong sizes a cycle is refused by 1
+pub refused-by-1 : (store main local : List ℕ) (s : State) → sizesWrong (length store) (length main) (length local) ≡ true → outcome (Refused s 1 0) main local ≡ cycleOf store main local s
+unfolding cycleOf
+refused-by-1 store main local s wrong = rw wrong
+
+-- with right ones it is not; and 22 is given by no cycle
 pub never-1 : (store main local : List ℕ) (s : State) → sizesWrong (length store) (length main) (length local) ≡ false → refusalNumber (cycleOf store main local s .answer) ≡ 1 → ⊥
 unfolding cycleOf
 never-1 store main local s right e =
@@ -182,6 +188,31 @@ unfolding cycleOf
 never-22 store main local s e =
     let f : Fields = fieldsOf (wordAt store s) in
     never 22 (cycleChecks store main local s) tt (λ z. omega arith) (sym (decided-number (first (cycleChecks store main local s)) (stops f) f main local s) ∙ e)
+
+-- ---- a refusal's number and field are bytes
+
+unmodelled-small : (f : Fields) → unmodelledOf f < 256
+unfolding unmodelledOf
+unmodelled-small f = first-lt 256 (map rowCheck (codeRows f)) (omega arith) tt
+
+field-small : (at-10 : Bool) (f : Fields) → cond at-10 (unmodelledOf f) 0 < 256
+field-small true f = unmodelled-small f
+field-small false f = omega arith
+
+module _ (store main local : List ℕ) (s t : State) (n g : ℕ) where
+  decided-small : (k : ℕ) (stop : Bool) (f : Fields) → k < 256 → decided k stop f main local s .answer ≡ Refused t n g → (n < 256) × (g < 256)
+  decided-small (suc k) stop f h e =
+      let same : suc k ≡ n = cc in
+      let field : fieldOf (suc k) f ≡ g = cc in
+      (subst (λ (x : ℕ). x < 256) same h, subst (λ (x : ℕ). x < 256) field (field-small (eqb (suc k) 10) f))
+  decided-small zero true f h e = absurd (zero-one cc)
+  decided-small zero false f h e = absurd (ran-not-refused f main local s t n g e)
+
+  pub refusal-small : cycleOf store main local s .answer ≡ Refused t n g → (n < 256) × (g < 256)
+  unfolding cycleOf
+  refusal-small e =
+      let f : Fields = fieldsOf (wordAt store s) in
+      decided-small (first (cycleChecks store main local s)) (stops f) f (first-lt 256 (cycleChecks store main local s) (omega arith) tt) e
 
 -- ---- no second answer fits, nor a second storage; and the table answers as the rule does
 

@@ -16,9 +16,10 @@ use Rattle.machine.specs.declared.State.{State}
 use Rattle.machine.specs.declared.Cycled.{Cycled}
 use Rattle.machine.specs.declared.Cycled.the-variants as C
 use Rattle.machine.proofs.Promises.{refusal-keeps, stop-keeps}
-use Rattle.run.specs.Run.{runChecks, runBy, runOf}
+use Rattle.run.specs.Run.{runOf}
 use Rattle.run.specs.declared.Finished.{Finished}
-use Rattle.run.proofs.Goes.{Machine, machine, Goes, here, next, done}
+use Rattle.run.proofs.Goes.{Machine, goes-none}
+use Rattle.run.proofs.Promises.{run-goes}
 use Rattle.channels.specs.Channels.{loaded}
 use Rattle.panel.specs.Answers.{RAN, coded, STOPPED, REFUSED, answered, Called, called, short, cycled, cycleCall, ranBy, runCall}
 use Rattle.panel.proofs.panel_take_apart.Reads as take-apart
@@ -59,24 +60,6 @@ module _ (store main local state : List ℕ) where
       by true c k h = refl
       by false c k h = k h
 
--- no cycles lead nowhere
-goes-none : {store : List ℕ} {n : ℕ} {m x : Machine} → Goes store n m x → n ≡ 0 → x ≡ m
-goes-none here e = refl
-goes-none (next a g) e = absurd (omega arith)
-
-module _ (budget : ℕ) (store main local : List ℕ) (s : State) where
-  none-by : (k : ℕ) → runBy k budget store main local s .answer .count ≡ 0 → (runBy k budget store main local s .main ≡ main) × (runBy k budget store main local s .local ≡ local)
-  none-by (suc k) e = (refl, refl)
-  none-by zero e =
-      let d = done budget 0 store (machine s main local) in
-      let c = d .counted in
-      let x = goes-none (d .goes) (omega arith) in
-      (ap (λ (m : Machine). m .main) x, ap (λ (m : Machine). m .local) x)
-
-  run-none : runOf budget store main local s .answer .count ≡ 0 → (runOf budget store main local s .main ≡ main) × (runOf budget store main local s .local ≡ local)
-  unfolding runOf
-  run-none = none-by (first (runChecks (length store) (length main) (length local) budget))
-
 ran-none : (r : Outcome Finished) (main local state : List ℕ) → r .answer .count ≡ 0 → r .main ≡ main → r .local ≡ local → Untouched main local state (ranBy r state)
 ran-none r main local state e em el = rw (e, em, el)
 
@@ -92,8 +75,8 @@ run-keeps store main local state budget = by (ltb (length state) 22)
     by true h = refl
     by false h =
         let e : r .answer .count ≡ 0 = omega arith in
-        let (m, l) = run-none budget store main local (loaded state) e in
-        ran-none r main local state e m l
+        let x = goes-none (run-goes budget store main local (loaded state)) e in
+        ran-none r main local state e (ap (λ (m : Machine). m .main) x) (ap (λ (m : Machine). m .local) x)
 
 -- ---- "With ARRIVING off, .. a cycle writes 0."
 

@@ -11,14 +11,16 @@ use lib.Dec.{eqb, ltb}
 use lib.ListN.{length}
 use Rattle.digits.specs.Sizes.{sizesWrong}
 use Rattle.digits.proofs.Truth.{zero-one}
-use Rattle.machine.specs.Cycle.{Outcome}
+use Rattle.machine.specs.Cycle.{Outcome, cycleOf}
 use Rattle.machine.specs.declared.State.{State}
-use Rattle.run.specs.Run.{ended, runBy, runOf}
+use Rattle.machine.specs.declared.Cycled.{Cycled}
+use Rattle.machine.proofs.Promises.{refused-by-1}
+use Rattle.run.specs.Run.{ended, onward, cyclesOf, runOf}
 use Rattle.run.specs.Divided.{BudgetsDivide, EndsAgain}
 use Rattle.run.specs.declared.Ending.{Ending}
 use Rattle.run.specs.declared.Ending.the-variants.{Stopped, Refused, Spent}
 use Rattle.run.specs.declared.Finished.{Finished}
-use Rattle.run.proofs.Runs.{spent}
+use Rattle.run.proofs.Runs.{spent, turn}
 use Rattle.run.proofs.Goes.{Machine, machine, here, join, Right, goes-right, Ends, runFrom, ends, ends-later, standing, DoneBy, done}
 use Rattle.run.proofs.Promises.{right-begins, wrong-refused}
 
@@ -160,3 +162,17 @@ divided a b store main local s first second total most f g w =
 pub ends-again : EndsAgain
 ends-again a b store main local s first second most f g other some =
     g ∙ subst (Again a b store (machine s main local) most) (sym f) (again a b store (machine s main local) most) other (omega (arith, some))
+
+-- ---- a run of one cycle is that cycle, whatever the sizes
+
+pub one-cycle : (store : List ℕ) (m : Machine) → runAt 1 store m ≡ onward (cyclesOf 0 store) (cycleOf store (m .main) (m .local) (m .state) .answer) (cycleOf store (m .main) (m .local) (m .state) .main) (cycleOf store (m .main) (m .local) (m .state) .local) 0
+one-cycle store m = by-sizes 1 store m (omega arith) (λ (r : Outcome Finished). r ≡ once (cycleOf store (m .main) (m .local) (m .state))) wrong right
+  where
+    once : Outcome Cycled → Outcome Finished
+    once o = onward (cyclesOf 0 store) (o .answer) (o .main) (o .local) 0
+
+    wrong : sizesWrong (length store) (length (m .main)) (length (m .local)) ≡ true → ended (Refused 1 0) (m .state) 0 (m .main) (m .local) ≡ once (cycleOf store (m .main) (m .local) (m .state))
+    wrong e = ap once (refused-by-1 store (m .main) (m .local) (m .state) e)
+
+    right : Right store m → runFrom 1 0 store m ≡ once (cycleOf store (m .main) (m .local) (m .state))
+    right e = turn 0 store (m .main) (m .local) (m .state) 0 _ _ _ refl

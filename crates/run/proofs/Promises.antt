@@ -1,5 +1,5 @@
 -- When a run is refused at once, and that no second answer fits. Assumes nothing.
-use Prim.Native.Nat.{ℕ, zero, suc, _≤_}
+use Prim.Native.Nat.{ℕ, zero, suc, _<_, _≤_}
 use mathlib.Core.Path.{_≡_, refl, sym, ap, subst, _∙_}
 use mathlib.Core.List.{List}
 use mathlib.Core.Bool.{true}
@@ -10,12 +10,12 @@ use denote.Ref.{now}
 use lib.ListN.{length}
 use Rattle.digits.specs.Refusal.{Check, first, Given}
 use Rattle.digits.specs.Sizes.{sizesWrong}
-use Rattle.digits.proofs.Refusals.{None, none-first, first-none, given-first, first-given}
+use Rattle.digits.proofs.Refusals.{None, none-first, first-none, given-first, first-given, first-lt}
 use Rattle.digits.proofs.Sole.{sole}
 use Rattle.machine.specs.Cycle.{Outcome, outcome, cycleOf, refusalNumber}
 use Rattle.machine.specs.declared.State.{State}
 use Rattle.machine.specs.declared.Cycled.{Cycled}
-use Rattle.machine.proofs.Promises.{never-1, never-22}
+use Rattle.machine.proofs.Promises.{never-1, never-22, refusal-small}
 use Rattle.run.specs.Run.{ended, cyclesOf, runChecks, runBy, runOf, endingNumber}
 use Rattle.run.specs.declared.Ending.{Ending}
 use Rattle.run.specs.declared.Ending.the-variants.{Stopped, Refused, Spent}
@@ -103,6 +103,33 @@ run-exactly budget store main local s n which = (to (first cs) refl, back)
         by : (k : ℕ) → k ≡ n → endingNumber (runBy k budget store main local s .answer .ending) ≡ n
         by zero z = absurd (not-0 n which z)
         by (suc k) z = z
+
+-- ---- a refusal's number and field are bytes
+
+abbrev pub Small : Ending → Type 0
+Small Spent = Unit {0}
+Small Stopped = Unit {0}
+Small (Refused number field) = (number < 256) × (field < 256)
+
+ending-small : (store : List ℕ) (budget k : ℕ) (ending : Ending) (x : Machine) → Ends store budget k ending x → Small ending
+ending-small store budget k Spent x e = tt
+ending-small store budget k Stopped x e = tt
+ending-small store budget k (Refused number field) x e =
+    refusal-small store (x .main) (x .local) (x .state) (x .state) number field (ap (λ (o : Outcome Cycled). o .answer) (sym (e .1)))
+
+pub run-small : (budget : ℕ) (store main local : List ℕ) (s : State) → Small (runOf budget store main local s .answer .ending)
+unfolding runOf
+run-small budget store main local s = by (first cs) (first-lt 256 cs (omega arith) tt)
+  where
+    cs : List Check
+    cs = runChecks (length store) (length main) (length local) budget
+
+    by : (k : ℕ) → k < 256 → Small (runBy k budget store main local s .answer .ending)
+    by (suc k) h = (h, omega arith)
+    by zero h =
+        let r : Outcome Finished = runFrom budget 0 store (machine s main local) in
+        let d = done budget 0 store (machine s main local) in
+        ending-small store budget (d .cycles) (r .answer .ending) (standing r) (d .ends)
 
 -- ---- no second answer fits, nor a second storage; and the table answers as the rule does
 

@@ -1,0 +1,249 @@
+-- The single-cycle button and the run button show the same machine. Assumes nothing.
+use Prim.Native.Nat.{ℕ, zero, suc, _+_, _*_, _^_, _<_, _≤_}
+use mathlib.Core.Path.{_≡_, refl, sym, ap, subst, _∙_}
+use mathlib.Core.List.{List}
+use mathlib.Core.Bool.{Bool, true, false, cond}
+use native.Mathlib.Nat.{add-zero, zero-add}
+use native.Mathlib.Omega.{arith}
+use borrow.Author.Tests.{le-ltb, ne-eqb}
+use lib.Dec.{eqb, ltb}
+use lib.ListN.{length, length-append}
+use Rattle.digits.specs.Bits.{one}
+use Rattle.digits.specs.Lent.{over}
+use Rattle.machine.specs.Cycle.{Outcome, cycleOf}
+use Rattle.machine.specs.declared.State.{State}
+use Rattle.machine.specs.declared.Cycled.{Cycled}
+use Rattle.machine.specs.declared.Cycled.the-variants as C
+use Rattle.machine.proofs.Promises.{refusal-small}
+use Rattle.run.specs.Run.{onward, cyclesOf, runOf}
+use Rattle.run.specs.Divided.{Divided}
+use Rattle.run.specs.declared.Ending.{Ending}
+use Rattle.run.specs.declared.Ending.the-variants as E
+use Rattle.run.specs.declared.Finished.{Finished}
+use Rattle.run.proofs.Runs.{spent}
+use Rattle.run.proofs.Goes.{Machine, machine, standing, goes-none}
+use Rattle.run.proofs.Promises.{run-goes, Small, run-small}
+use Rattle.run.proofs.Divided.{divided, one-cycle}
+use Rattle.run.proofs.Quiet.{quiet-keeps}
+use Rattle.channels.specs.Channels.{saved, loaded}
+use Rattle.channels.proofs.Trips.{state-back}
+use Rattle.panel.specs.Answers.{RAN, REFUSED, coded, counted, Called, called, short, cycled, cycledBy, cycleCall, endingCode, recordAfter, ranBy, runCall}
+use Rattle.panel.specs.Buttons.{codeIn, cyclesIn, DividedCalls, CallsDivide, press, presses, ranIn, asEnding, SameMachine, CallsQuiet}
+
+-- ---- the number
+
+code-small : (e : Ending) → Small e → endingCode e < 2 ^ 32
+code-small E.Spent h = omega arith
+code-small E.Stopped h = omega arith
+code-small (E.Refused number field) (n, f) = omega arith
+
+cycles-in : (code n : ℕ) → code < 2 ^ 32 → cyclesIn (counted code n) ≡ n
+cycles-in code n h = omega arith
+
+code-in : (code n : ℕ) → code < 2 ^ 32 → codeIn (counted code n) ≡ code
+code-in code n h = omega arith
+
+-- ---- the record
+
+length-saved : (s : State) → length (saved s) ≡ 22
+unfolding saved
+length-saved s = refl
+
+over-saved : (s t : State) (state : List ℕ) → over (saved t) (over (saved s) state) ≡ over (saved t) state
+unfolding saved
+over-saved s t state = refl
+
+-- a cycle ran: the record is written
+written : (n : ℕ) (s : State) (state : List ℕ) → (n ≡ 0 → ⊥) → recordAfter n s state ≡ over (saved s) state
+written n s state some = rw (ne-eqb n 0 some)
+
+-- a run of n cycles that came to s, and then one of k that came to t
+two-records : (n k : ℕ) (s t : State) (state : List ℕ) → (k ≡ 0 → t ≡ s) → recordAfter k t (recordAfter n s state) ≡ recordAfter (n + k) t state
+two-records zero k s t state same = rw zero-add
+two-records (suc n) zero s t state same =
+    written (suc n) s state (λ z. omega arith) ∙ ap (λ (x : State). over (saved x) state) (sym (same refl)) ∙ sym (written (suc n + 0) t state (λ z. omega arith))
+two-records (suc n) (suc k) s t state same =
+    written (suc k) t _ (λ z. omega arith)
+    ∙ ap (over (saved t)) (written (suc n) s state (λ z. omega arith))
+    ∙ over-saved s t state
+    ∙ sym (written (suc n + suc k) t state (λ z. omega arith))
+
+-- it stays as long as it must be
+still-long : (n : ℕ) (s : State) (state : List ℕ) → ltb (length state) 22 ≡ false → ltb (length (recordAfter n s state)) 22 ≡ false
+still-long n s state long = by (eqb n 0)
+  where
+    by : (none : Bool) → ltb (length (cond none state (over (saved s) state))) 22 ≡ false
+    by true = long
+    by false =
+        let n = length-saved s in
+        le-ltb (length (over (saved s) state)) 22 (rw length-append (omega arith))
+
+-- and it has the state that the run came to
+loaded-after : (budget : ℕ) (store main local state : List ℕ) → let r : Outcome Finished = runOf budget store main local (loaded state) in
+    loaded (recordAfter (r .answer .count) (r .answer .state) state) ≡ r .answer .state
+loaded-after budget store main local state = by (r .answer .count) refl
+  where
+    r : Outcome Finished
+    r = runOf budget store main local (loaded state)
+
+    by : (n : ℕ) → r .answer .count ≡ n → loaded (recordAfter n (r .answer .state) state) ≡ r .answer .state
+    by zero e = sym (ap (λ (m : Machine). m .state) (goes-none (run-goes budget store main local (loaded state)) e))
+    by (suc n) e = ap loaded (written (suc n) (r .answer .state) state (λ z. omega arith)) ∙ state-back (r .answer .state) state
+
+-- ---- the calls
+
+module _ (store main local state : List ℕ) where
+  is-short : ltb (length state) 22 ≡ true → (budget : ℕ) → runCall store main local state budget ≡ short main local state
+  unfolding runCall
+  is-short e budget = rw e
+
+  is-ran : ltb (length state) 22 ≡ false → (budget : ℕ) → runCall store main local state budget ≡ ranBy (runOf budget store main local (loaded state)) state
+  unfolding runCall
+  is-ran e budget = rw e
+
+chosen : (z : Bool) (x y : Ending) → cond z (endingCode x) (endingCode y) ≡ endingCode (cond z x y)
+chosen true x y = refl
+chosen false x y = refl
+
+either-way : (z : Bool) (n : ℕ) → cond z n n ≡ n
+either-way true n = refl
+either-way false n = refl
+
+-- two runs that make up a third, by their calls
+from-runs : (b : ℕ) (r q w : Outcome Finished) (state : List ℕ) → Small (r .answer .ending) → Small (q .answer .ending) → Small (w .answer .ending)
+    → (q .answer .count ≡ 0 → q .answer .state ≡ r .answer .state) → Divided b r q w
+    → DividedCalls b (ranBy r state) (ranBy q (recordAfter (r .answer .count) (r .answer .state) state)) (ranBy w state)
+from-runs b r q w state small-r small-q small-w still d =
+    let hr = code-small (r .answer .ending) small-r in
+    let hq = code-small (q .answer .ending) small-q in
+    let hw = code-small (w .answer .ending) small-w in
+    record {
+      in-state = two-records (r .answer .count) (q .answer .count) (r .answer .state) (q .answer .state) state still ∙ (λ i. recordAfter (d .count i) (d .state i) state);
+      in-main = d .in-main;
+      in-local = d .in-local;
+      cycles = (λ i. cycles-in _ (r .answer .count) hr i + cycles-in _ (q .answer .count) hq i) ∙ d .count ∙ sym (cycles-in _ (w .answer .count) hw);
+      code =
+          (λ i. cond (eqb b 0) (code-in _ (r .answer .count) hr i) (code-in _ (q .answer .count) hq i))
+          ∙ chosen (eqb b 0) (r .answer .ending) (q .answer .ending)
+          ∙ ap endingCode (d .ending)
+          ∙ sym (code-in _ (w .answer .count) hw);
+    }
+
+-- three calls that are refused alike
+refused-alike : (b : ℕ) (c : Called) → cyclesIn (c .number) ≡ 0 → DividedCalls b c c c
+refused-alike b c none = record { in-state = refl; in-main = refl; in-local = refl; cycles = omega arith; code = either-way (eqb b 0) (codeIn (c .number)) }
+
+module _ (a b : ℕ) (store main local state : List ℕ) where
+  abbrev Divide : Called → Called → Type 0
+  Divide c whole = DividedCalls b c (runCall store (c .main) (c .local) (c .state) b) whole
+
+  -- what the three calls are
+  known : (c q w : Called) → runCall store main local state a ≡ c → runCall store (c .main) (c .local) (c .state) b ≡ q → runCall store main local state (a + b) ≡ w
+      → DividedCalls b c q w → Divide (runCall store main local state a) (runCall store main local state (a + b))
+  known c q w is-c is-q is-w d =
+      subst (λ (z : Called). Divide z (runCall store main local state (a + b))) (sym is-c) (subst (Divide c) (sym is-w) (subst (λ (z : Called). DividedCalls b c z w) (sym is-q) d))
+
+pub calls-divide : CallsDivide
+calls-divide a b store main local state most = by (ltb (length state) 22) refl
+  where
+    by : (z : Bool) → ltb (length state) 22 ≡ z → Divide a b store main local state (runCall store main local state a) (runCall store main local state (a + b))
+    by true e =
+        let c : Called = short main local state in
+        let is = is-short store main local state e in
+        known a b store main local state c c c (is a) (is b) (is (a + b)) (refused-alike b c refl)
+    by false e =
+        let s : State = loaded state in
+        let r : Outcome Finished = runOf a store main local s in
+        let left : List ℕ = recordAfter (r .answer .count) (r .answer .state) state in
+        let q : Outcome Finished = runOf b store (r .main) (r .local) (loaded left) in
+        let w : Outcome Finished = runOf (a + b) store main local s in
+        let same = loaded-after a store main local state in
+        let goes = run-goes b store (r .main) (r .local) (loaded left) in
+        known a b store main local state (ranBy r state) (ranBy q left) (ranBy w state)
+        (is-ran store main local state e a)
+        (is-ran store (r .main) (r .local) left (still-long (r .answer .count) (r .answer .state) state e) b)
+        (is-ran store main local state e (a + b))
+        (from-runs b r q w state (run-small a store main local s) (run-small b store (r .main) (r .local) (loaded left)) (run-small (a + b) store main local s)
+          (λ none. ap (λ (m : Machine). m .state) (goes-none goes none) ∙ same)
+          (divided a b store main local s r q w most refl (ap (runOf b store (r .main) (r .local)) same) refl))
+
+-- ---- the presses
+
+-- one call of panel_cycle as a run of one cycle
+abbrev shown : Called → Called
+shown c = called (counted (asEnding (c .number)) (one (eqb (c .number) RAN) + 0)) (c .main) (c .local) (c .state)
+
+as-run : (store : List ℕ) (r : Cycled) (main local state : List ℕ) → ranBy (onward (cyclesOf 0 store) r main local 0) state ≡ shown (cycled r main local state)
+as-run store (C.Ran t) main local state = ap (λ (o : Outcome Finished). ranBy o state) (spent store main local t 1)
+as-run store (C.Stopped t) main local state = refl
+as-run store (C.Refused t number field) main local state = rw (ne-eqb (coded REFUSED number field) RAN (λ z. omega arith))
+
+press-is-run : (store main local state : List ℕ) → runCall store main local state 1 ≡ shown (cycleCall store main local state)
+unfolding runCall cycleCall
+press-is-run store main local state = by (ltb (length state) 22)
+  where
+    o : Outcome Cycled
+    o = cycleOf store main local (loaded state)
+
+    by : (z : Bool) → cond z (short main local state) (ranBy (runOf 1 store main local (loaded state)) state) ≡ shown (cond z (short main local state) (cycledBy o state))
+    by true = refl
+    by false = ap (λ (r : Outcome Finished). ranBy r state) (one-cycle store (machine (loaded state) main local)) ∙ as-run store (o .answer) (o .main) (o .local) state
+
+module _ (store main local state : List ℕ) where
+  answer-small : (r : Cycled) → cycleOf store main local (loaded state) .answer ≡ r → (m l : List ℕ) → asEnding (cycled r m l state .number) < 2 ^ 32
+  answer-small (C.Ran t) e m l = omega arith
+  answer-small (C.Stopped t) e m l = omega arith
+  answer-small (C.Refused t number field) e m l =
+      let (n, f) = refusal-small store main local (loaded state) t number field e in
+      rw (ne-eqb (coded REFUSED number field) RAN (λ z. omega arith)) (omega arith)
+
+  press-small : asEnding (cycleCall store main local state .number) < 2 ^ 32
+  unfolding cycleCall
+  press-small = by (ltb (length state) 22)
+    where
+      o : Outcome Cycled
+      o = cycleOf store main local (loaded state)
+
+      by : (z : Bool) → asEnding (cond z (short main local state) (cycledBy o state) .number) < 2 ^ 32
+      by true = omega arith
+      by false = answer-small (o .answer) refl (o .main) (o .local)
+
+-- the number of a whole whose second part has a budget
+number-of : (x y n : ℕ) → codeIn x ≡ codeIn y → n + cyclesIn x ≡ cyclesIn y → x + 2 ^ 32 * n ≡ y
+number-of x y n code cycles = omega arith
+
+-- n cycles by the first, and then what is known of the second
+then-second : (b : ℕ) (first whole : Called) (code n ending ran : ℕ) (main local state : List ℕ) → (b ≡ 0 → ⊥) → first .number ≡ counted code n → code < 2 ^ 32
+    → DividedCalls b first (called (counted ending ran) main local state) whole → whole ≡ called (counted ending (n + ran)) main local state
+then-second b first whole code n ending ran main local state some is small d =
+    let same = rw (ne-eqb b 0 some) at (d .code) in
+    let c : cyclesIn (first .number) ≡ n = ap cyclesIn is ∙ cycles-in code n small in
+    let all : n + cyclesIn (counted ending ran) ≡ cyclesIn (whole .number) = ap (λ (k : ℕ). k + cyclesIn (counted ending ran)) (sym c) ∙ d .cycles in
+    let x = number-of (counted ending ran) (whole .number) n same all in
+    let number : whole .number ≡ counted ending (n + ran) = omega arith in
+    sym (λ i. called (sym number i) (d .in-main i) (d .in-local i) (d .in-state i))
+
+pub same-machine : SameMachine
+same-machine zero store c h = press-is-run store (c .main) (c .local) (c .state)
+same-machine (suc n) store c h =
+    let c1 : Called = press store c in
+    let last : Called = presses (suc n) store c1 in
+    let whole : Called = runCall store (c .main) (c .local) (c .state) (1 + suc n) in
+    let two : suc (suc n) ≡ 1 + suc n = omega arith in
+    let d = calls-divide 1 (suc n) store (c .main) (c .local) (c .state) (omega arith) in
+    let pressed = subst (λ (z : Called). Divide 1 (suc n) store (c .main) (c .local) (c .state) z whole) (press-is-run store (c .main) (c .local) (c .state)) d in
+    let known = subst (λ (z : Called). DividedCalls (suc n) (shown c1) z whole) (same-machine n store c1 (omega arith)) pressed in
+    ap (runCall store (c .main) (c .local) (c .state)) two
+    ∙ then-second (suc n) (shown c1) whole (asEnding (c1 .number)) (one (eqb (c1 .number) RAN)) (asEnding (last .number)) (ranIn (suc n) store c1) (last .main) (last .local) (last .state)
+    (λ z. omega arith) (ap (counted (asEnding (c1 .number))) (add-zero _)) (press-small store (c .main) (c .local) (c .state)) known
+
+pub calls-quiet : CallsQuiet
+unfolding runCall
+calls-quiet store main local state budget quiet = by (ltb (length state) 22)
+  where
+    r : Outcome Finished
+    r = runOf budget store main local (loaded state)
+
+    by : (z : Bool) → (cond z (short main local state) (ranBy r state) .main ≡ main) × (cond z (short main local state) (ranBy r state) .local ≡ local)
+    by true = (refl, refl)
+    by false = quiet-keeps budget store main local (loaded state) r quiet refl
