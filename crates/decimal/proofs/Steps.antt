@@ -98,4 +98,4 @@ module _ (store : List ℕ) (a : ℕ) (f : Fields) (w : Holds store a f) (m : Ma
 pub run-stops : (store : List ℕ) (budget k : ℕ) (s : State) (main local : List ℕ) (x : Machine) → Right store (machine s main local) → budget ≤ 1000000
     → Goes store k (machine s main local) x → Halts store x → k < budget → runOf budget store main local s ≡ ended Stopped (x .state) k (x .main) (x .local)
 run-stops store budget k s main local x right most g h less =
-    sym (right-begins budget store (machine s main local) right most) ∙ ends g budget Stopped (less, h)
+    sym (right-begins store (machine s main local) right budget most) ∙ ends g budget Stopped (less, h)

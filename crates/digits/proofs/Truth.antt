@@ -1,7 +1,7 @@
 -- The laws of tests: what "and" and "or" tell of their parts, and what cannot be. Assumes nothing.
 use Prim.Native.Nat.{ℕ, _≤_, _<_}
 use mathlib.Core.Path.{_≡_, refl, sym}
-use mathlib.Core.Bool.{Bool, true, false, _&&_, _||_}
+use mathlib.Core.Bool.{Bool, true, false, cond, _&&_, _||_}
 use native.Mathlib.Omega.{arith}
 use lib.Dec.{leb}
 use borrow.Author.Tests.{leb-true, leb-false, le-leb, lt-leb}
@@ -20,6 +20,11 @@ both false b h = absurd (zero-one cc)
 pub neither : (a b : Bool) → a || b ≡ false → (a ≡ false) × (b ≡ false)
 neither true b h = absurd (zero-one cc)
 neither false b h = (refl, h)
+
+-- the same either way
+pub either-way : {A : Type 0} (z : Bool) (x : A) → cond z x x ≡ x
+either-way true x = refl
+either-way false x = refl
 
 -- two tests that pass together are one
 pub same-test : (a b c d : ℕ) → (a ≤ b → c ≤ d) → (b < a → d < c) → leb a b ≡ leb c d

@@ -10,12 +10,13 @@ use lib.Dec.{eqb, ltb}
 use lib.ListN.{length, length-append}
 use Rattle.digits.specs.Bits.{one}
 use Rattle.digits.specs.Lent.{over}
-use Rattle.machine.specs.Cycle.{Outcome, cycleOf}
+use Rattle.digits.proofs.Truth.{either-way}
+use Rattle.machine.specs.Cycle.{Outcome, outcome, cycleOf}
 use Rattle.machine.specs.declared.State.{State}
 use Rattle.machine.specs.declared.Cycled.{Cycled}
 use Rattle.machine.specs.declared.Cycled.the-variants as C
 use Rattle.machine.proofs.Promises.{refusal-small}
-use Rattle.run.specs.Run.{onward, cyclesOf, runOf}
+use Rattle.run.specs.Run.{runOf}
 use Rattle.run.specs.Divided.{Divided}
 use Rattle.run.specs.declared.Ending.{Ending}
 use Rattle.run.specs.declared.Ending.the-variants as E
@@ -23,7 +24,7 @@ use Rattle.run.specs.declared.Finished.{Finished}
 use Rattle.run.proofs.Runs.{spent}
 use Rattle.run.proofs.Goes.{Machine, machine, standing, goes-none}
 use Rattle.run.proofs.Promises.{run-goes, Small, run-small}
-use Rattle.run.proofs.Divided.{divided, one-cycle}
+use Rattle.run.proofs.Divided.{divided, once, one-cycle}
 use Rattle.run.proofs.Quiet.{quiet-keeps}
 use Rattle.channels.specs.Channels.{saved, loaded}
 use Rattle.channels.proofs.Trips.{state-back}
@@ -105,10 +106,6 @@ chosen : (z : Bool) (x y : Ending) → cond z (endingCode x) (endingCode y) ≡ 
 chosen true x y = refl
 chosen false x y = refl
 
-either-way : (z : Bool) (n : ℕ) → cond z n n ≡ n
-either-way true n = refl
-either-way false n = refl
-
 -- two runs that make up a third, by their calls
 from-runs : (b : ℕ) (r q w : Outcome Finished) (state : List ℕ) → Small (r .answer .ending) → Small (q .answer .ending) → Small (w .answer .ending)
     → (q .answer .count ≡ 0 → q .answer .state ≡ r .answer .state) → Divided b r q w
@@ -164,8 +161,8 @@ calls-divide a b store main local state most = by (ltb (length state) 22) refl
         (is-ran store (r .main) (r .local) left (still-long (r .answer .count) (r .answer .state) state e) b)
         (is-ran store main local state e (a + b))
         (from-runs b r q w state (run-small a store main local s) (run-small b store (r .main) (r .local) (loaded left)) (run-small (a + b) store main local s)
-          (λ none. ap (λ (m : Machine). m .state) (goes-none goes none) ∙ same)
-          (divided a b store main local s r q w most refl (ap (runOf b store (r .main) (r .local)) same) refl))
+        (λ none. ap (λ (m : Machine). m .state) (goes-none goes none) ∙ same)
+        (divided a b store main local s r q w most refl (ap (runOf b store (r .main) (r .local)) same) refl))
 
 -- ---- the presses
 
@@ -173,7 +170,7 @@ calls-divide a b store main local state most = by (ltb (length state) 22) refl
 abbrev shown : Called → Called
 shown c = called (counted (asEnding (c .number)) (one (eqb (c .number) RAN) + 0)) (c .main) (c .local) (c .state)
 
-as-run : (store : List ℕ) (r : Cycled) (main local state : List ℕ) → ranBy (onward (cyclesOf 0 store) r main local 0) state ≡ shown (cycled r main local state)
+as-run : (store : List ℕ) (r : Cycled) (main local state : List ℕ) → ranBy (once store (outcome r main local)) state ≡ shown (cycled r main local state)
 as-run store (C.Ran t) main local state = ap (λ (o : Outcome Finished). ranBy o state) (spent store main local t 1)
 as-run store (C.Stopped t) main local state = refl
 as-run store (C.Refused t number field) main local state = rw (ne-eqb (coded REFUSED number field) RAN (λ z. omega arith))

@@ -2,15 +2,13 @@
 use Prim.Native.Nat.{ℕ, zero, suc, _+_, _<_, _≤_}
 use mathlib.Core.Path.{_≡_, refl, sym, ap, subst, _∙_}
 use mathlib.Core.List.{List}
-use mathlib.Core.Bool.{Bool, true, false, cond}
+use mathlib.Core.Bool.{cond}
 use mathlib.Core.Logic.{_⊎_, inl, inr}
 use native.Mathlib.Nat.{add-zero, zero-lt-suc}
 use native.Mathlib.Omega.{arith}
-use borrow.Author.Tests.{le-ltb, ne-eqb}
-use lib.Dec.{eqb, ltb}
-use lib.ListN.{length}
-use Rattle.digits.specs.Sizes.{sizesWrong}
-use Rattle.digits.proofs.Truth.{zero-one}
+use borrow.Author.Tests.{ne-eqb}
+use lib.Dec.{eqb}
+use Rattle.digits.proofs.Truth.{zero-one, either-way}
 use Rattle.machine.specs.Cycle.{Outcome, cycleOf}
 use Rattle.machine.specs.declared.State.{State}
 use Rattle.machine.specs.declared.Cycled.{Cycled}
@@ -21,8 +19,8 @@ use Rattle.run.specs.declared.Ending.{Ending}
 use Rattle.run.specs.declared.Ending.the-variants.{Stopped, Refused, Spent}
 use Rattle.run.specs.declared.Finished.{Finished}
 use Rattle.run.proofs.Runs.{spent, turn}
-use Rattle.run.proofs.Goes.{Machine, machine, here, join, Right, goes-right, Ends, runFrom, ends, ends-later, standing, DoneBy, done}
-use Rattle.run.proofs.Promises.{right-begins, wrong-refused}
+use Rattle.run.proofs.Goes.{Machine, machine, here, join, Wrong, Right, goes-right, Ends, runFrom, ends, ends-later, standing, DoneBy, done}
+use Rattle.run.proofs.Promises.{runAt, refusedBy1, wrong-refused, right-begins, by-sizes}
 
 -- the answer that two runs make together
 abbrev together : ℕ → Outcome Finished → Outcome Finished → Outcome Finished
@@ -68,10 +66,6 @@ spent-or-not Spent = inl refl
 spent-or-not Stopped = inr (λ z. zero-one cc)
 spent-or-not (Refused number field) = inr (λ z. zero-one cc)
 
-either-way : (z : Bool) (e : Ending) → cond z e e ≡ e
-either-way true e = refl
-either-way false e = refl
-
 -- a second run that ran no cycle from where r stood, and whose ending does not count or is r's
 adds-nothing : (b : ℕ) (r q : Outcome Finished) (e : Ending) → q ≡ ended e (r .answer .state) 0 (r .main) (r .local) → cond (eqb b 0) (r .answer .ending) e ≡ r .answer .ending → together b r q ≡ r
 adds-nothing b r q e none same = ap (together b r) none ∙ λ i. ended (same i) (r .answer .state) (add-zero (r .answer .count) i) (r .main) (r .local)
@@ -99,52 +93,40 @@ in-all store a (suc b) m = by (spent-or-not (r .answer .ending))
 
 -- ---- with 1 and 22
 
-abbrev runAt : ℕ → List ℕ → Machine → Outcome Finished
-runAt budget store m = runOf budget store (m .main) (m .local) (m .state)
-
--- a run within the limit is refused by 1, or is its cycles
-module _ (budget : ℕ) (store : List ℕ) (m : Machine) (most : budget ≤ 1000000) (P : Outcome Finished → Type 0) where
-  by-sizes : (sizesWrong (length store) (length (m .main)) (length (m .local)) ≡ true → P (ended (Refused 1 0) (m .state) 0 (m .main) (m .local)))
-      → (Right store m → P (runFrom budget 0 store m)) → P (runAt budget store m)
-  by-sizes wrong right = by (sizesWrong (length store) (length (m .main)) (length (m .local))) refl
-    where
-      by : (b : Bool) → sizesWrong (length store) (length (m .main)) (length (m .local)) ≡ b → P (runAt budget store m)
-      by true e = subst P (wrong-refused store (m .main) (m .local) (m .state) e budget) (wrong e)
-      by false e = subst P (right-begins budget store m e most) (right e)
-
 module _ (a b : ℕ) (store : List ℕ) (m : Machine) (most : a + b ≤ 1000000) where
-  -- the first run, and the second from where it ended
+  -- r and the second run, from where r ended, are the whole
   abbrev Whole : Outcome Finished → Type 0
   Whole r = together b r (runAt b store (standing r)) ≡ runAt (a + b) store m
 
   whole : Whole (runAt a store m)
-  whole = by-sizes a store m (omega arith) Whole wrong right
+  whole = by-sizes store m a (omega arith) Whole wrong right
     where
-      wrong : sizesWrong (length store) (length (m .main)) (length (m .local)) ≡ true → Whole (ended (Refused 1 0) (m .state) 0 (m .main) (m .local))
+      wrong : Wrong store m → Whole (refusedBy1 m)
       wrong e =
-          let refused = wrong-refused store (m .main) (m .local) (m .state) e in
-          adds-nothing b _ (runAt b store m) (Refused 1 0) (sym (refused b)) (either-way (eqb b 0) (Refused 1 0)) ∙ refused (a + b)
+          let refused = wrong-refused store m e in
+          adds-nothing b (refusedBy1 m) (runAt b store m) (Refused 1 0) (sym (refused b)) (either-way (eqb b 0) (Refused 1 0)) ∙ refused (a + b)
 
       right : Right store m → Whole (runFrom a 0 store m)
       right e =
           let r : Outcome Finished = runFrom a 0 store m in
           let still = goes-right (done a 0 store m .goes) e in
-          ap (together b r) (sym (right-begins b store (standing r) still (omega arith))) ∙ in-all store a b m ∙ right-begins (a + b) store m e most
+          ap (together b r) (sym (right-begins store (standing r) still b (omega arith))) ∙ in-all store a b m ∙ right-begins store m e (a + b) most
 
+  -- r stopped, or was refused, and so is the second run
   abbrev Again : Outcome Finished → Type 0
   Again r = (r .answer .ending ≡ Spent → ⊥) → 0 < b → runAt b store (standing r) ≡ ended (r .answer .ending) (r .answer .state) 0 (r .main) (r .local)
 
   again : Again (runAt a store m)
-  again = by-sizes a store m (omega arith) Again wrong right
+  again = by-sizes store m a (omega arith) Again wrong right
     where
-      wrong : sizesWrong (length store) (length (m .main)) (length (m .local)) ≡ true → Again (ended (Refused 1 0) (m .state) 0 (m .main) (m .local))
-      wrong e other some = sym (wrong-refused store (m .main) (m .local) (m .state) e b)
+      wrong : Wrong store m → Again (refusedBy1 m)
+      wrong e other some = sym (wrong-refused store m e b)
 
       right : Right store m → Again (runFrom a 0 store m)
       right e other some =
           let r : Outcome Finished = runFrom a 0 store m in
           let d = done a 0 store m in
-          sym (right-begins b store (standing r) (goes-right (d .goes) e) (omega arith)) ∙ at-once store a b m r d other some
+          sym (right-begins store (standing r) (goes-right (d .goes) e) b (omega arith)) ∙ at-once store a b m r d other some
 
 pub divided : BudgetsDivide
 divided a b store main local s first second total most f g w =
@@ -165,14 +147,14 @@ ends-again a b store main local s first second most f g other some =
 
 -- ---- a run of one cycle is that cycle, whatever the sizes
 
-pub one-cycle : (store : List ℕ) (m : Machine) → runAt 1 store m ≡ onward (cyclesOf 0 store) (cycleOf store (m .main) (m .local) (m .state) .answer) (cycleOf store (m .main) (m .local) (m .state) .main) (cycleOf store (m .main) (m .local) (m .state) .local) 0
-one-cycle store m = by-sizes 1 store m (omega arith) (λ (r : Outcome Finished). r ≡ once (cycleOf store (m .main) (m .local) (m .state))) wrong right
+abbrev pub once : List ℕ → Outcome Cycled → Outcome Finished
+once store o = onward (cyclesOf 0 store) (o .answer) (o .main) (o .local) 0
+
+pub one-cycle : (store : List ℕ) (m : Machine) → runAt 1 store m ≡ once store (cycleOf store (m .main) (m .local) (m .state))
+one-cycle store m = by-sizes store m 1 (omega arith) (λ (r : Outcome Finished). r ≡ once store (cycleOf store (m .main) (m .local) (m .state))) wrong right
   where
-    once : Outcome Cycled → Outcome Finished
-    once o = onward (cyclesOf 0 store) (o .answer) (o .main) (o .local) 0
+    wrong : Wrong store m → refusedBy1 m ≡ once store (cycleOf store (m .main) (m .local) (m .state))
+    wrong e = ap (once store) (refused-by-1 store (m .main) (m .local) (m .state) e)
 
-    wrong : sizesWrong (length store) (length (m .main)) (length (m .local)) ≡ true → ended (Refused 1 0) (m .state) 0 (m .main) (m .local) ≡ once (cycleOf store (m .main) (m .local) (m .state))
-    wrong e = ap once (refused-by-1 store (m .main) (m .local) (m .state) e)
-
-    right : Right store m → runFrom 1 0 store m ≡ once (cycleOf store (m .main) (m .local) (m .state))
+    right : Right store m → runFrom 1 0 store m ≡ once store (cycleOf store (m .main) (m .local) (m .state))
     right e = turn 0 store (m .main) (m .local) (m .state) 0 _ _ _ refl

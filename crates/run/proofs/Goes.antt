@@ -2,7 +2,7 @@
 use Prim.Native.Nat.{ℕ, zero, suc, _+_, _-_, _<_, suc-le-suc}
 use mathlib.Core.Path.{_≡_, refl, sym, ap, subst, _∙_}
 use mathlib.Core.List.{List}
-use mathlib.Core.Bool.{false}
+use mathlib.Core.Bool.{true, false}
 use native.Mathlib.Nat.{add-zero, suc-add, zero-add, zero-lt-suc}
 use native.Mathlib.Omega.{arith}
 use lib.ListN.{length}
@@ -51,7 +51,10 @@ pub goes-keep : {store : List ℕ} {n : ℕ} {m x : Machine} (P : Machine → Ty
 goes-keep P keeps here p = p
 goes-keep P keeps (next {m = m} {x = x} a g) p = goes-keep P keeps g (keeps m x a p)
 
--- the sizes are right, and stay so
+-- the sizes are wrong; they are right, and stay so
+abbrev pub Wrong : List ℕ → Machine → Type 0
+Wrong store m = sizesWrong (length store) (length (m .main)) (length (m .local)) ≡ true
+
 abbrev pub Right : List ℕ → Machine → Type 0
 Right store m = sizesWrong (length store) (length (m .main)) (length (m .local)) ≡ false
 

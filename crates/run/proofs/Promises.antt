@@ -2,7 +2,7 @@
 use Prim.Native.Nat.{ℕ, zero, suc, _<_, _≤_}
 use mathlib.Core.Path.{_≡_, refl, sym, ap, subst, _∙_}
 use mathlib.Core.List.{List}
-use mathlib.Core.Bool.{true}
+use mathlib.Core.Bool.{Bool, true, false}
 use mathlib.Core.Logic.{_⊎_, inl, inr, _↔_}
 use native.Mathlib.Omega.{arith}
 use borrow.Author.Tests.{le-ltb}
@@ -21,7 +21,7 @@ use Rattle.run.specs.declared.Ending.{Ending}
 use Rattle.run.specs.declared.Ending.the-variants.{Stopped, Refused, Spent}
 use Rattle.run.specs.declared.Finished.{Finished}
 use Rattle.run.proofs.Runs.{refused-at-once, begins}
-use Rattle.run.proofs.Goes.{Machine, machine, Goes, here, Right, goes-right, Ends, runFrom, standing, done}
+use Rattle.run.proofs.Goes.{Machine, machine, Goes, here, Wrong, Right, goes-right, Ends, runFrom, standing, done}
 use Rattle.run.proofs.refusal.Reads as refusal
 use Rattle.run.proofs.run.Reads as run
 use Rattle.run.proofs.run_by_table.Reads as run-by-table
@@ -36,14 +36,28 @@ module _ (budget : ℕ) (store main local : List ℕ) (s : State) where
   pub run-begins : None (runChecks (length store) (length main) (length local) budget) → cyclesOf budget store main local s 0 ≡ runOf budget store main local s
   run-begins g = begins budget store main local s _ refl (none-first (runChecks (length store) (length main) (length local) budget) g)
 
--- with the sizes right and a budget that may be given, the cycles begin
-pub right-begins : (budget : ℕ) (store : List ℕ) (m : Machine) → Right store m → budget ≤ 1000000 → runFrom budget 0 store m ≡ runOf budget store (m .main) (m .local) (m .state)
-right-begins budget store m right most = run-begins budget store (m .main) (m .local) (m .state) (right, (le-ltb 1000000 budget most, tt))
+-- the run from a machine on, and the answer that is 1
+abbrev pub runAt : ℕ → List ℕ → Machine → Outcome Finished
+runAt budget store m = runOf budget store (m .main) (m .local) (m .state)
 
--- with the sizes wrong it is refused by 1, whatever the budget
-pub wrong-refused : (store main local : List ℕ) (s : State) → sizesWrong (length store) (length main) (length local) ≡ true
-    → (budget : ℕ) → ended (Refused 1 0) s 0 main local ≡ runOf budget store main local s
-wrong-refused store main local s wrong budget = refused-at-once budget store main local s 1 (rw wrong) (λ z. omega arith)
+abbrev pub refusedBy1 : Machine → Outcome Finished
+refusedBy1 m = ended (Refused 1 0) (m .state) 0 (m .main) (m .local)
+
+module _ (store : List ℕ) (m : Machine) where
+  pub wrong-refused : Wrong store m → (budget : ℕ) → refusedBy1 m ≡ runAt budget store m
+  wrong-refused wrong budget = refused-at-once budget store (m .main) (m .local) (m .state) 1 (rw wrong) (λ z. omega arith)
+
+  pub right-begins : Right store m → (budget : ℕ) → budget ≤ 1000000 → runFrom budget 0 store m ≡ runAt budget store m
+  right-begins right budget most = run-begins budget store (m .main) (m .local) (m .state) (right, (le-ltb 1000000 budget most, tt))
+
+  -- so a run within the limit is refused by 1, or is its cycles
+  pub by-sizes : (budget : ℕ) → budget ≤ 1000000 → (P : Outcome Finished → Type 0) → (Wrong store m → P (refusedBy1 m)) → (Right store m → P (runFrom budget 0 store m))
+      → P (runAt budget store m)
+  by-sizes budget most P wrong right = by (sizesWrong (length store) (length (m .main)) (length (m .local))) refl
+    where
+      by : (b : Bool) → sizesWrong (length store) (length (m .main)) (length (m .local)) ≡ b → P (runAt budget store m)
+      by true e = subst P (wrong-refused e budget) (wrong e)
+      by false e = subst P (right-begins e budget most) (right e)
 
 -- whatever its ending, a run is as many single cycles as it counts
 pub run-goes : (budget : ℕ) (store main local : List ℕ) (s : State)

@@ -293,9 +293,9 @@ fn runs() {
     assert!(answers.contains(&(1_000_000 << 32 | 3)), "the longest run");
 }
 
-/// Of any sizes and words, and some whose runs go on.
-fn draw_cases(random: &mut Random) -> Vec<Lent> {
-    (0..1600).map(|place| if place % 8 == 0 { lent_to_go_on(random) } else { lent(random, 30) }).collect()
+/// Of any sizes and words, and one in `some` such that its run goes on.
+fn draw_cases(random: &mut Random, some: usize) -> Vec<Lent> {
+    (0..1600).map(|place| if place % some == 0 { lent_to_go_on(random) } else { lent(random, 30) }).collect()
 }
 
 /// A run of each: what it answers, and what it leaves.
@@ -385,7 +385,7 @@ const BUTTONS: [Kind<(Pressed, u64)>; 11] = [
 #[test]
 fn buttons() {
     let random = &mut Random::new(137);
-    let found = draw_cases(random);
+    let found = draw_cases(random, 8);
     let cases = press_all(random, found);
     let runs = run_each(cases.iter().map(|case| (&case.found, case.presses as u32)));
     for (case, (answer, left)) in cases.iter().zip(&runs) {
@@ -432,7 +432,7 @@ fn are_one_run(case: &Division, left: &Lent, answer: u64, whole: &Lent) {
 fn divided_runs() {
     let random = &mut Random::new(139);
     let mut cases: Vec<(Lent, [u32; 2])> =
-        draw_cases(random).into_iter().map(|case| (case, common::draw_budgets(random))).collect();
+        draw_cases(random, 3).into_iter().map(|case| (case, common::draw_budgets(random))).collect();
     cases.extend([0, 1, 999_999, 1_000_000].map(|cut| (endless(), [cut, 1_000_000 - cut])));
     let first = run_each(cases.iter().map(|(case, budgets)| (case, budgets[0])));
     let second = run_each(first.iter().zip(&cases).map(|((_, left), (_, budgets))| (left, budgets[1])));

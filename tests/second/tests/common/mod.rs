@@ -271,10 +271,10 @@ fn draw_record(random: &mut Random, room: usize, words: u64) -> Vec<u8> {
 
 /// The same for a run that goes on: no next address and no main address is outside, and few words stop or are refused.
 pub fn lent_to_go_on(random: &mut Random) -> Lent {
-    let few = one_of(random, &[8, 64, 512, u64::MAX]);
+    let few = one_of(random, &[8, 16, 32, 64, 512, u64::MAX]);
     let word = |random: &mut Random, address: u32| match random.below(few) {
         0 => any_word(random, address),
-        1 => stop_word(random, address),
+        1 | 2 => stop_word(random, address),
         _ => running_word(random, address),
     };
     let store = (0..MOST_WORDS as u32).map(|address| word(random, address)).collect();
@@ -291,10 +291,10 @@ pub fn draw_budgets(random: &mut Random) -> [u32; 2] {
 /// What a kind of case is called, and which cases are of it.
 pub type Kind<Case> = (&'static str, fn(&Case) -> bool);
 
-/// Each kind is that of ten cases or more.
+/// Each kind is that of five cases or more.
 pub fn each_occurs<Case>(kinds: &[Kind<Case>], cases: &[Case]) {
     for (name, is) in kinds {
         let count = cases.iter().filter(|case| is(case)).count();
-        assert!(count >= 10, "{name}: {count} of {} cases", cases.len());
+        assert!(count >= 5, "{name}: {count} of {} cases", cases.len());
     }
 }
