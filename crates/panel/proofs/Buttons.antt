@@ -22,13 +22,14 @@ use Rattle.run.specs.declared.Ending.{Ending}
 use Rattle.run.specs.declared.Ending.the-variants as E
 use Rattle.run.specs.declared.Finished.{Finished}
 use Rattle.run.proofs.Runs.{spent}
-use Rattle.run.proofs.Goes.{Machine, machine, standing, goes-none}
-use Rattle.run.proofs.Promises.{run-goes, Small, run-small}
+use Rattle.run.proofs.Goes.{Machine, machine, goes-none}
+use Rattle.run.proofs.Promises.{run-goes, count-within, Small, run-small}
 use Rattle.run.proofs.Divided.{divided, once, one-cycle}
 use Rattle.run.proofs.Quiet.{quiet-keeps}
 use Rattle.channels.specs.Channels.{saved, loaded}
 use Rattle.channels.proofs.Trips.{state-back}
 use Rattle.panel.specs.Answers.{RAN, REFUSED, coded, counted, Called, called, short, cycled, cycledBy, cycleCall, endingCode, recordAfter, ranBy, runCall}
+use Rattle.panel.proofs.Promises.{Untouched, run-keeps}
 use Rattle.panel.specs.Buttons.{codeIn, cyclesIn, DividedCalls, CallsDivide, press, presses, ranIn, asEnding, SameMachine, CallsQuiet}
 
 -- ---- the number
@@ -220,19 +221,55 @@ then-second b first whole code n ending ran main local state some is small d =
     let number : whole .number ≡ counted ending (n + ran) = omega arith in
     sym (λ i. called (sym number i) (d .in-main i) (d .in-local i) (d .in-state i))
 
-pub same-machine : SameMachine
-same-machine zero store c h = press-is-run store (c .main) (c .local) (c .state)
-same-machine (suc n) store c h =
+-- the last press, with the number of the run
+abbrev inOne : ℕ → List ℕ → Called → Called
+inOne n store c =
+    let last : Called = presses n store c in
+    called (counted (asEnding (last .number)) (ranIn n store c)) (last .main) (last .local) (last .state)
+
+some-presses : (n : ℕ) (store : List ℕ) (c : Called) → suc n ≤ 1000000 → runCall store (c .main) (c .local) (c .state) (suc n) ≡ inOne (suc n) store c
+some-presses zero store c h = press-is-run store (c .main) (c .local) (c .state)
+some-presses (suc n) store c h =
     let c1 : Called = press store c in
     let last : Called = presses (suc n) store c1 in
     let whole : Called = runCall store (c .main) (c .local) (c .state) (1 + suc n) in
     let two : suc (suc n) ≡ 1 + suc n = omega arith in
     let d = calls-divide 1 (suc n) store (c .main) (c .local) (c .state) (omega arith) in
     let pressed = subst (λ (z : Called). Divide 1 (suc n) store (c .main) (c .local) (c .state) z whole) (press-is-run store (c .main) (c .local) (c .state)) d in
-    let known = subst (λ (z : Called). DividedCalls (suc n) (shown c1) z whole) (same-machine n store c1 (omega arith)) pressed in
+    let known = subst (λ (z : Called). DividedCalls (suc n) (shown c1) z whole) (some-presses n store c1 (omega arith)) pressed in
     ap (runCall store (c .main) (c .local) (c .state)) two
     ∙ then-second (suc n) (shown c1) whole (asEnding (c1 .number)) (one (eqb (c1 .number) RAN)) (asEnding (last .number)) (ranIn (suc n) store c1) (last .main) (last .local) (last .state)
     (λ z. omega arith) (ap (counted (asEnding (c1 .number))) (add-zero _)) (press-small store (c .main) (c .local) (c .state)) known
+
+-- a budget of 0 touches nothing
+no-press : (store main local state : List ℕ) → Untouched main local state (runCall store main local state 0)
+no-press store main local state = run-keeps store main local state 0 (by (ltb (length state) 22) refl)
+  where
+    by : (z : Bool) → ltb (length state) 22 ≡ z → runCall store main local state 0 .number < 2 ^ 32
+    by true e = subst (λ (c : Called). c .number < 2 ^ 32) (sym (is-short store main local state e 0)) (omega arith)
+    by false e =
+        let r : Outcome Finished = runOf 0 store main local (loaded state) in
+        let code = code-small (r .answer .ending) (run-small 0 store main local (loaded state)) in
+        let none = count-within 0 store main local (loaded state) in
+        subst (λ (c : Called). c .number < 2 ^ 32) (sym (is-ran store main local state e 0)) (omega arith)
+
+pub same-machine : SameMachine
+same-machine zero store c h =
+    let e = no-press store (c .main) (c .local) (c .state) in
+    record {
+      in-state = sym (ap (λ (z : Called). z .state) e);
+      in-main = sym (ap (λ (z : Called). z .main) e);
+      in-local = sym (ap (λ (z : Called). z .local) e);
+      number = λ some. absurd (some refl);
+    }
+same-machine (suc n) store c h =
+    let e = some-presses n store c h in
+    record {
+      in-state = sym (ap (λ (z : Called). z .state) e);
+      in-main = sym (ap (λ (z : Called). z .main) e);
+      in-local = sym (ap (λ (z : Called). z .local) e);
+      number = λ some. sym (ap (λ (z : Called). z .number) e);
+    }
 
 pub calls-quiet : CallsQuiet
 unfolding runCall

@@ -6,7 +6,7 @@ use mathlib.Core.Bool.{cond}
 use lib.Dec.{eqb}
 use Rattle.digits.specs.Bits.{one}
 use Rattle.run.specs.Divided.{Quiet}
-use Rattle.panel.specs.Answers.{RAN, SPENT, counted, Called, called, cycleCall, runCall}
+use Rattle.panel.specs.Answers.{RAN, SPENT, counted, Called, cycleCall, runCall}
 
 -- what the number of a run tells: its kind, refusal and field, and the cycles that ran
 abbrev pub codeIn : ℕ → ℕ
@@ -50,13 +50,16 @@ ranIn (suc n) store c = one (eqb (press store c .number) RAN) + ranIn n store (p
 abbrev pub asEnding : ℕ → ℕ
 asEnding code = cond (eqb code RAN) SPENT code
 
--- one call of panel_run of n, at least 1, is what n presses show: the storages, the record, how the last ended and how many ran
+-- n presses, after any call c, and one call of panel_run of n in their place
+pub record Shows (n : ℕ) (store : List ℕ) (c : Called) : Type 0 where
+  pub in-state : presses n store c .state ≡ runCall store (c .main) (c .local) (c .state) n .state
+  pub in-main : presses n store c .main ≡ runCall store (c .main) (c .local) (c .state) n .main
+  pub in-local : presses n store c .local ≡ runCall store (c .main) (c .local) (c .state) n .local
+  -- where none is pressed there is no answer to compare
+  pub number : (n ≡ 0 → ⊥) → counted (asEnding (presses n store c .number)) (ranIn n store c) ≡ runCall store (c .main) (c .local) (c .state) n .number
+
 abbrev pub SameMachine : Type 0
-SameMachine =
-    (n : ℕ) (store : List ℕ) (c : Called)
-    → suc n ≤ 1000000
-    → let last : Called = presses (suc n) store c in
-    runCall store (c .main) (c .local) (c .state) (suc n) ≡ called (counted (asEnding (last .number)) (ranIn (suc n) store c)) (last .main) (last .local) (last .state)
+SameMachine = (n : ℕ) (store : List ℕ) (c : Called) → n ≤ 1000000 → Shows n store c
 
 -- a store with no Write and no Store word: a call of panel_run leaves both storages as found
 abbrev pub CallsQuiet : Type 0

@@ -10,11 +10,10 @@ use borrow.Author.Tests.{ne-eqb}
 use lib.Dec.{eqb}
 use Rattle.digits.proofs.Truth.{zero-one, either-way}
 use Rattle.machine.specs.Cycle.{Outcome, cycleOf}
-use Rattle.machine.specs.declared.State.{State}
 use Rattle.machine.specs.declared.Cycled.{Cycled}
 use Rattle.machine.proofs.Promises.{refused-by-1}
-use Rattle.run.specs.Run.{ended, onward, cyclesOf, runOf}
-use Rattle.run.specs.Divided.{BudgetsDivide, EndsAgain}
+use Rattle.run.specs.Run.{ended, onward, cyclesOf}
+use Rattle.run.specs.Divided.{BudgetsDivide}
 use Rattle.run.specs.declared.Ending.{Ending}
 use Rattle.run.specs.declared.Ending.the-variants.{Stopped, Refused, Spent}
 use Rattle.run.specs.declared.Finished.{Finished}
@@ -136,14 +135,14 @@ divided a b store main local s first second total most f g w =
       in-local = ap (λ (z : Outcome Finished). z .local) e;
       count = ap (λ (z : Outcome Finished). z .answer .count) e;
       ending = ap (λ (z : Outcome Finished). z .answer .ending) e;
+      again = λ other some. g ∙ subst (Again a b store m most) (sym f) (again a b store m most) other (omega (arith, some));
     }
   where
-    e : together b first second ≡ total
-    e = ap (together b first) g ∙ subst (Whole a b store (machine s main local) most) (sym f) (whole a b store (machine s main local) most) ∙ sym w
+    m : Machine
+    m = machine s main local
 
-pub ends-again : EndsAgain
-ends-again a b store main local s first second most f g other some =
-    g ∙ subst (Again a b store (machine s main local) most) (sym f) (again a b store (machine s main local) most) other (omega (arith, some))
+    e : together b first second ≡ total
+    e = ap (together b first) g ∙ subst (Whole a b store m most) (sym f) (whole a b store m most) ∙ sym w
 
 -- ---- a run of one cycle is that cycle, whatever the sizes
 

@@ -59,19 +59,63 @@ module _ (store : List ℕ) (m : Machine) where
       by true e = subst P (wrong-refused e budget) (wrong e)
       by false e = subst P (right-begins e budget most) (right e)
 
--- whatever its ending, a run is as many single cycles as it counts
-pub run-goes : (budget : ℕ) (store main local : List ℕ) (s : State)
-    → Goes store (runOf budget store main local s .answer .count) (machine s main local) (standing (runOf budget store main local s))
-unfolding runOf
-run-goes budget store main local s = by (first (runChecks (length store) (length main) (length local) budget))
-  where
-    by : (k : ℕ) → Goes store (runBy k budget store main local s .answer .count) (machine s main local) (standing (runBy k budget store main local s))
-    by (suc k) = here
-    by zero =
-        let d = done budget 0 store (machine s main local) in
-        let c = d .counted in
-        let n : d .cycles ≡ runBy 0 budget store main local s .answer .count = omega arith in
-        subst (λ (j : ℕ). Goes store j (machine s main local) (standing (runBy 0 budget store main local s))) n (d .goes)
+-- ---- what holds of every run: it is refused at once, by a byte, or is its cycles
+
+ends-within : (store : List ℕ) (budget n : ℕ) (ending : Ending) (x : Machine) → Ends store budget n ending x → n ≤ budget
+ends-within store budget n Spent x e = omega arith
+ends-within store budget n Stopped x (h, a) = omega arith
+ends-within store budget n (Refused number field) x (h, a) = omega arith
+
+abbrev pub Small : Ending → Type 0
+Small Spent = Unit {0}
+Small Stopped = Unit {0}
+Small (Refused number field) = (number < 256) × (field < 256)
+
+ending-small : (store : List ℕ) (budget k : ℕ) (ending : Ending) (x : Machine) → Ends store budget k ending x → Small ending
+ending-small store budget k Spent x e = tt
+ending-small store budget k Stopped x e = tt
+ending-small store budget k (Refused number field) x e =
+    refusal-small store (x .main) (x .local) (x .state) (x .state) number field (ap (λ (o : Outcome Cycled). o .answer) (sym (e .1)))
+
+module _ (budget : ℕ) (store main local : List ℕ) (s : State) where
+  abbrev m : Machine
+  m = machine s main local
+
+  by-checks : (P : Outcome Finished → Type 0) → ((n : ℕ) → n < 256 → P (ended (Refused n 0) s 0 main local)) → P (runFrom budget 0 store m) → P (runOf budget store main local s)
+  unfolding runOf
+  by-checks P refused cycles = by (first cs) (first-lt 256 cs (omega arith) tt)
+    where
+      cs : List Check
+      cs = runChecks (length store) (length main) (length local) budget
+
+      by : (n : ℕ) → n < 256 → P (runBy n budget store main local s)
+      by (suc n) h = refused (suc n) h
+      by zero h = cycles
+
+  -- as many single cycles as it counts, whatever its ending
+  pub run-goes : Goes store (runOf budget store main local s .answer .count) m (standing (runOf budget store main local s))
+  run-goes =
+      let r : Outcome Finished = runFrom budget 0 store m in
+      let d = done budget 0 store m in
+      let c = d .counted in
+      let n : d .cycles ≡ r .answer .count = omega arith in
+      by-checks (λ (x : Outcome Finished). Goes store (x .answer .count) m (standing x)) (λ k h. here) (subst (λ (j : ℕ). Goes store j m (standing r)) n (d .goes))
+
+  -- no more of them than its budget
+  pub count-within : runOf budget store main local s .answer .count ≤ budget
+  count-within =
+      let r : Outcome Finished = runFrom budget 0 store m in
+      let d = done budget 0 store m in
+      let c = d .counted in
+      let h = ends-within store budget (d .cycles) (r .answer .ending) (standing r) (d .ends) in
+      by-checks (λ (x : Outcome Finished). x .answer .count ≤ budget) (λ k less. omega arith) (omega arith)
+
+  -- a refusal's number and field are bytes
+  pub run-small : Small (runOf budget store main local s .answer .ending)
+  run-small =
+      let r : Outcome Finished = runFrom budget 0 store m in
+      let d = done budget 0 store m in
+      by-checks (λ (x : Outcome Finished). Small (x .answer .ending)) (λ k less. (less, omega arith)) (ending-small store budget (d .cycles) (r .answer .ending) (standing r) (d .ends))
 
 -- ---- exactly when a run is refused by 1 or 22: no cycle of it gives either
 
@@ -117,33 +161,6 @@ run-exactly budget store main local s n which = (to (first cs) refl, back)
         by : (k : ℕ) → k ≡ n → endingNumber (runBy k budget store main local s .answer .ending) ≡ n
         by zero z = absurd (not-0 n which z)
         by (suc k) z = z
-
--- ---- a refusal's number and field are bytes
-
-abbrev pub Small : Ending → Type 0
-Small Spent = Unit {0}
-Small Stopped = Unit {0}
-Small (Refused number field) = (number < 256) × (field < 256)
-
-ending-small : (store : List ℕ) (budget k : ℕ) (ending : Ending) (x : Machine) → Ends store budget k ending x → Small ending
-ending-small store budget k Spent x e = tt
-ending-small store budget k Stopped x e = tt
-ending-small store budget k (Refused number field) x e =
-    refusal-small store (x .main) (x .local) (x .state) (x .state) number field (ap (λ (o : Outcome Cycled). o .answer) (sym (e .1)))
-
-pub run-small : (budget : ℕ) (store main local : List ℕ) (s : State) → Small (runOf budget store main local s .answer .ending)
-unfolding runOf
-run-small budget store main local s = by (first cs) (first-lt 256 cs (omega arith) tt)
-  where
-    cs : List Check
-    cs = runChecks (length store) (length main) (length local) budget
-
-    by : (k : ℕ) → k < 256 → Small (runBy k budget store main local s .answer .ending)
-    by (suc k) h = (h, omega arith)
-    by zero h =
-        let r : Outcome Finished = runFrom budget 0 store (machine s main local) in
-        let d = done budget 0 store (machine s main local) in
-        ending-small store budget (d .cycles) (r .answer .ending) (standing r) (d .ends)
 
 -- ---- no second answer fits, nor a second storage; and the table answers as the rule does
 

@@ -1,5 +1,5 @@
 -- A store with no Write and no Store word. Assumes nothing.
-use Prim.Native.Nat.{ℕ, zero, suc, _<_}
+use Prim.Native.Nat.{ℕ, zero, suc}
 use mathlib.Core.Path.{_≡_, refl, sym, ap, _∙_}
 use mathlib.Core.List.{List, [], _∷_}
 use mathlib.Core.Bool.{Bool, false}
@@ -11,7 +11,7 @@ use Rattle.digits.proofs.Table.{any, each-in}
 use Rattle.digits.proofs.Truth.{zero-one}
 use Rattle.word.specs.Layout.{fieldsOf}
 use Rattle.word.specs.declared.Fields.{Fields}
-use Rattle.machine.specs.Cycle.{Outcome, outcome, cycleChecks, wordAt, ranOf, decided, cycleOf}
+use Rattle.machine.specs.Cycle.{Outcome, cycleChecks, wordAt, ranOf, decided, cycleOf}
 use Rattle.machine.specs.Sources.{entered}
 use Rattle.machine.specs.Storage.{readsLocal, idle, accesses, accessOf}
 use Rattle.machine.specs.declared.State.{State}
@@ -21,7 +21,7 @@ use Rattle.machine.specs.declared.Cycled.the-variants as C
 use Rattle.machine.proofs.Promises.{ran-exactly}
 use Rattle.run.specs.Divided.{writes, Quiet, QuietKeeps}
 use Rattle.run.specs.declared.Finished.{Finished}
-use Rattle.run.proofs.Goes.{Machine, machine, Answers, goes-keep}
+use Rattle.run.proofs.Goes.{Machine, Answers, goes-keep}
 use Rattle.run.proofs.Promises.{run-goes}
 
 -- a byte is put in the rows of Write and Store alone

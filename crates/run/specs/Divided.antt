@@ -21,6 +21,8 @@ pub record Divided (b : ℕ) (first second whole : Outcome Finished) : Type 0 wh
   pub count : first .answer .count + second .answer .count ≡ whole .answer .count
   -- "with the second run's answer, or the first's where the second budget is 0"
   pub ending : cond (eqb b 0) (first .answer .ending) (second .answer .ending) ≡ whole .answer .ending
+  -- so a first run that stopped or was refused ends so again: at the same word, by the same number and field, after no cycle
+  pub again : (first .answer .ending ≡ Spent → ⊥) → (b ≡ 0 → ⊥) → second ≡ ended (first .answer .ending) (first .answer .state) 0 (first .main) (first .local)
 
 -- "over every store and state .. a run of one budget followed by another from where it ended equals a run of their total, when the total is
 -- at most 1,000,000". A run is what is promised of `run` and of `run_by_table`, so each of the three may be made by either.
@@ -32,17 +34,6 @@ BudgetsDivide =
     → second ≡ runOf b store (first .main) (first .local) (first .answer .state)
     → whole ≡ runOf (a + b) store main local s
     → Divided b first second whole
-
--- so a first run that stopped, or was refused, ends so again: at the same word, by the same number and field, after no cycle
-abbrev pub EndsAgain : Type 0
-EndsAgain =
-    (a b : ℕ) (store main local : List ℕ) (s : State) (first second : Outcome Finished)
-    → a + b ≤ 1000000
-    → first ≡ runOf a store main local s
-    → second ≡ runOf b store (first .main) (first .local) (first .answer .state)
-    → (first .answer .ending ≡ Spent → ⊥)
-    → (b ≡ 0 → ⊥)
-    → second ≡ ended (first .answer .ending) (first .answer .state) 0 (first .main) (first .local)
 
 -- "CM 0 Write, .. 2 Store", in a word that is accepted or not
 abbrev pub writes : ℕ → Bool
