@@ -80,25 +80,25 @@ run-keeps store main local state budget = by (ltb (length state) 22)
 
 -- ---- "With ARRIVING off, .. a cycle writes 0."
 
-abbrev pub Quiet : Cycled → Type 0
-Quiet (C.Ran t) = t .arriving ≡ false → t .«arriving_byte» ≡ 0
-Quiet (C.Stopped t) = Unit {0}
-Quiet (C.Refused t number field) = Unit {0}
+abbrev pub Unlit : Cycled → Type 0
+Unlit (C.Ran t) = t .arriving ≡ false → t .«arriving_byte» ≡ 0
+Unlit (C.Stopped t) = Unit {0}
+Unlit (C.Refused t number field) = Unit {0}
 
-ran-quiet : (f : Fields) (main local : List ℕ) (s : State) → Quiet (ranOf f main local s .answer)
+ran-unlit : (f : Fields) (main local : List ℕ) (s : State) → Unlit (ranOf f main local s .answer)
 unfolding ranOf
-ran-quiet f main local s h = rw h
+ran-unlit f main local s h = rw h
 
-decided-quiet : (n : ℕ) (stop : Bool) (f : Fields) (main local : List ℕ) (s : State) → Quiet (decided n stop f main local s .answer)
-decided-quiet (suc n) stop f main local s = tt
-decided-quiet zero true f main local s = tt
-decided-quiet zero false f main local s = ran-quiet f main local s
+decided-unlit : (n : ℕ) (stop : Bool) (f : Fields) (main local : List ℕ) (s : State) → Unlit (decided n stop f main local s .answer)
+decided-unlit (suc n) stop f main local s = tt
+decided-unlit zero true f main local s = tt
+decided-unlit zero false f main local s = ran-unlit f main local s
 
-pub cycle-quiet : (store main local : List ℕ) (s : State) → Quiet (cycleOf store main local s .answer)
+pub cycle-unlit : (store main local : List ℕ) (s : State) → Unlit (cycleOf store main local s .answer)
 unfolding cycleOf
-cycle-quiet store main local s =
+cycle-unlit store main local s =
     let f : Fields = fieldsOf (wordAt store s) in
-    decided-quiet (first (cycleChecks store main local s)) (stops f) f main local s
+    decided-unlit (first (cycleChecks store main local s)) (stops f) f main local s
 
 -- ---- no second answer fits, nor a second state of what is lent
 

@@ -35,13 +35,13 @@ BudgetsDivide =
     → whole ≡ runOf (a + b) store main local s
     → Divided b first second whole
 
--- "CM 0 Write, .. 2 Store", in a word that is accepted or not
+-- "CM 0 Write, .. 2 Store"
 abbrev pub writes : ℕ → Bool
-writes word = among (fieldsOf word .cm) (0 ∷ 2 ∷ [])
+writes cm = among cm (0 ∷ 2 ∷ [])
 
--- "a store holding no Write and no Store word"
+-- "a store holding no Write and no Store word": none of its words, accepted or not
 abbrev pub Quiet : List ℕ → Type 0
-Quiet store = Each (λ (word : ℕ). writes word ≡ false) store
+Quiet store = Each (λ (word : ℕ). writes (fieldsOf word .cm) ≡ false) store
 
 -- "leaves all storage as found in every run", whatever its ending
 abbrev pub QuietKeeps : Type 0
