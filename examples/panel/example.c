@@ -1,5 +1,6 @@
 /* A start for a board's maker: pack the word P of document 01, run one cycle with it, print the 22 lamp channels. Then
- * add 38, 47 and a carry by the shipped words, a cycle at a time, and look into the adder before each cycle.
+ * add 38, 47 and a carry by the shipped words, a cycle at a time, and look into the adder before each cycle. Last, make
+ * that addition on two panels, one with the single-cycle button and then the run button, one with the run button alone.
  * build.sh beside this file builds and runs it.
  */
 #include "../../include/panel.h"
@@ -60,4 +61,50 @@ static int shipped_words(void) {
     return 0;
 }
 
-int main(void) { return one_cycle_of_p() != 0 || shipped_words() != 0; }
+struct panel {
+    uint8_t main[256];
+    uint8_t local[256];
+    uint8_t state[PANEL_STATE];
+};
+
+/* The single-cycle button. */
+static uint32_t press(struct panel *p, const uint64_t *words, size_t count) {
+    return panel_cycle(words, count, p->main, sizeof p->main, p->local, sizeof p->local, p->state, sizeof p->state);
+}
+
+/* The run button. */
+static uint64_t run(struct panel *p, const uint64_t *words, size_t count, uint32_t budget) {
+    return panel_run(words, count, p->main, sizeof p->main, p->local, sizeof p->local, p->state, sizeof p->state, budget);
+}
+
+static int lay(struct panel *p) {
+    p->main[0x10] = 0x38;
+    p->main[0x20] = 0x47;
+    return panel_start(0x10, 0x20, 1, 1, p->state, sizeof p->state) == 0;
+}
+
+static int same(const struct panel *p, const struct panel *q) {
+    const uint8_t *a = (const uint8_t *)p;
+    const uint8_t *b = (const uint8_t *)q;
+    size_t i = 0;
+    while (i < sizeof *p && a[i] == b[i]) i++;
+    return i == sizeof *p;
+}
+
+static int two_buttons(void) {
+    static struct panel first, second;
+    uint64_t words[64];
+    uint32_t count = panel_shipped(words, 64);
+    if (count > 64 || !lay(&first) || !lay(&second)) return 1;
+    for (int pressed = 0; pressed < 7; pressed++) {
+        if (press(&first, words, count) != PANEL_RAN) return 1;
+    }
+    uint64_t rest = run(&first, words, count, 93);
+    uint64_t whole = run(&second, words, count, 100);
+    printf("7 single cycles, then a run of %u: kind %u\n", (unsigned)(rest >> 32), (unsigned)(rest % 256));
+    printf("one run of %u: kind %u\n", (unsigned)(whole >> 32), (unsigned)(whole % 256));
+    printf("lamps and storage are %s\n", same(&first, &second) ? "the same" : "NOT the same");
+    return !same(&first, &second);
+}
+
+int main(void) { return one_cycle_of_p() != 0 || shipped_words() != 0 || two_buttons() != 0; }

@@ -39,8 +39,21 @@ fn cycles_of_the_sum() -> String {
     text + &format!("38 + 47 + 1 = {:02X}\n", main[0x10])
 }
 
+/// What it prints of the two buttons: the cycles of the run alone, and those left of it after seven.
+fn buttons() -> String {
+    let (mut words, mut record) = ([0; 21], [0; 22]);
+    assert_eq!((panel::shipped(&mut words), panel::start(0x10, 0x20, 1, 1, &mut record)), (21, 0));
+    let mut main = [0; 256];
+    [main[0x10], main[0x20]] = [0x38, 0x47];
+    let number = panel::run_for(&words, &mut main, &mut [0; 256], &mut record, 100);
+    let (cycles, kind) = (number >> 32, number % 256);
+    format!("7 single cycles, then a run of {}: kind {kind}\none run of {cycles}: kind {kind}\n", cycles - 7)
+        + "lamps and storage are the same\n"
+}
+
 fn shows_the_example(said: &Said) {
-    assert_eq!((said.text(), said.status), (cycle_of_p() + &cycles_of_the_sum(), Some(0)), "{}", said.err);
+    let text = cycle_of_p() + &cycles_of_the_sum() + &buttons();
+    assert_eq!((said.text(), said.status), (text, Some(0)), "{}", said.err);
 }
 
 #[test]
