@@ -1,11 +1,11 @@
 -- The single-cycle button and the run button show the same machine. Assumes nothing.
-use Prim.Native.Nat.{ℕ, zero, suc, _+_, _*_, _^_, _<_, _≤_}
+use Prim.Native.Nat.{ℕ, zero, suc, _+_, _^_, _<_, _≤_}
 use mathlib.Core.Path.{_≡_, refl, sym, ap, subst, _∙_}
 use mathlib.Core.List.{List}
 use mathlib.Core.Bool.{Bool, true, false, cond}
 use native.Mathlib.Nat.{add-zero, zero-add}
 use native.Mathlib.Omega.{arith}
-use borrow.Author.Tests.{le-ltb, ne-eqb}
+use borrow.Author.Tests.{ne-eqb}
 use lib.Dec.{eqb, ltb}
 use lib.ListN.{length, length-append}
 use Rattle.digits.specs.Bits.{one}
@@ -29,8 +29,9 @@ use Rattle.run.proofs.Quiet.{quiet-keeps}
 use Rattle.channels.specs.Channels.{saved, loaded}
 use Rattle.channels.proofs.Trips.{state-back}
 use Rattle.panel.specs.Answers.{RAN, REFUSED, coded, counted, Called, called, short, cycled, cycledBy, cycleCall, endingCode, recordAfter, ranBy, runCall}
+use Rattle.panel.proofs.Calls.{run-short, run-else, by-record}
 use Rattle.panel.proofs.Promises.{Untouched, run-keeps}
-use Rattle.panel.specs.Buttons.{codeIn, cyclesIn, DividedCalls, CallsDivide, press, presses, ranIn, asEnding, SameMachine, CallsQuiet}
+use Rattle.panel.specs.Buttons.{codeIn, cyclesIn, DividedCalls, CallsDivide, press, presses, ranIn, asEnding, Shows, SameMachine, CallsQuiet}
 
 -- ---- the number
 
@@ -71,14 +72,12 @@ two-records (suc n) (suc k) s t state same =
     ∙ sym (written (suc n + suc k) t state (λ z. omega arith))
 
 -- it stays as long as it must be
-still-long : (n : ℕ) (s : State) (state : List ℕ) → ltb (length state) 22 ≡ false → ltb (length (recordAfter n s state)) 22 ≡ false
+still-long : (n : ℕ) (s : State) (state : List ℕ) → 22 ≤ length state → 22 ≤ length (recordAfter n s state)
 still-long n s state long = by (eqb n 0)
   where
-    by : (none : Bool) → ltb (length (cond none state (over (saved s) state))) 22 ≡ false
+    by : (none : Bool) → 22 ≤ length (cond none state (over (saved s) state))
     by true = long
-    by false =
-        let n = length-saved s in
-        le-ltb (length (over (saved s) state)) 22 (rw length-append (omega arith))
+    by false = let n = length-saved s in rw length-append (omega arith)
 
 -- and it has the state that the run came to
 loaded-after : (budget : ℕ) (store main local state : List ℕ) → let r : Outcome Finished = runOf budget store main local (loaded state) in
@@ -93,15 +92,6 @@ loaded-after budget store main local state = by (r .answer .count) refl
     by (suc n) e = ap loaded (written (suc n) (r .answer .state) state (λ z. omega arith)) ∙ state-back (r .answer .state) state
 
 -- ---- the calls
-
-module _ (store main local state : List ℕ) where
-  is-short : ltb (length state) 22 ≡ true → (budget : ℕ) → runCall store main local state budget ≡ short main local state
-  unfolding runCall
-  is-short e budget = rw e
-
-  is-ran : ltb (length state) 22 ≡ false → (budget : ℕ) → runCall store main local state budget ≡ ranBy (runOf budget store main local (loaded state)) state
-  unfolding runCall
-  is-ran e budget = rw e
 
 chosen : (z : Bool) (x y : Ending) → cond z (endingCode x) (endingCode y) ≡ endingCode (cond z x y)
 chosen true x y = refl
@@ -132,35 +122,45 @@ refused-alike : (b : ℕ) (c : Called) → cyclesIn (c .number) ≡ 0 → Divide
 refused-alike b c none = record { in-state = refl; in-main = refl; in-local = refl; cycles = omega arith; code = either-way (eqb b 0) (codeIn (c .number)) }
 
 module _ (a b : ℕ) (store main local state : List ℕ) where
+  -- c and the second call, on what c left, make up the whole
   abbrev Divide : Called → Called → Type 0
   Divide c whole = DividedCalls b c (runCall store (c .main) (c .local) (c .state) b) whole
 
-  -- what the three calls are
-  known : (c q w : Called) → runCall store main local state a ≡ c → runCall store (c .main) (c .local) (c .state) b ≡ q → runCall store main local state (a + b) ≡ w
-      → DividedCalls b c q w → Divide (runCall store main local state a) (runCall store main local state (a + b))
-  known c q w is-c is-q is-w d =
-      subst (λ (z : Called). Divide z (runCall store main local state (a + b))) (sym is-c) (subst (Divide c) (sym is-w) (subst (λ (z : Called). DividedCalls b c z w) (sym is-q) d))
+  -- by what the second and the whole are
+  known : (c q w : Called) → q ≡ runCall store (c .main) (c .local) (c .state) b → w ≡ runCall store main local state (a + b) → DividedCalls b c q w → Divide c (runCall store main local state (a + b))
+  known c q w is-q is-w d = subst (Divide c) is-w (subst (λ (z : Called). DividedCalls b c z w) is-q d)
 
 pub calls-divide : CallsDivide
-calls-divide a b store main local state most = by (ltb (length state) 22) refl
+calls-divide a b store main local state most =
+    by-record store main local state a (λ (c : Called). Divide a b store main local state c (runCall store main local state (a + b))) refused ran
   where
-    by : (z : Bool) → ltb (length state) 22 ≡ z → Divide a b store main local state (runCall store main local state a) (runCall store main local state (a + b))
-    by true e =
+    s : State
+    s = loaded state
+
+    r : Outcome Finished
+    r = runOf a store main local s
+
+    left : List ℕ
+    left = recordAfter (r .answer .count) (r .answer .state) state
+
+    q : Outcome Finished
+    q = runOf b store (r .main) (r .local) (loaded left)
+
+    w : Outcome Finished
+    w = runOf (a + b) store main local s
+
+    refused : length state < 22 → Divide a b store main local state (short main local state) (runCall store main local state (a + b))
+    refused h =
         let c : Called = short main local state in
-        let is = is-short store main local state e in
-        known a b store main local state c c c (is a) (is b) (is (a + b)) (refused-alike b c refl)
-    by false e =
-        let s : State = loaded state in
-        let r : Outcome Finished = runOf a store main local s in
-        let left : List ℕ = recordAfter (r .answer .count) (r .answer .state) state in
-        let q : Outcome Finished = runOf b store (r .main) (r .local) (loaded left) in
-        let w : Outcome Finished = runOf (a + b) store main local s in
+        known a b store main local state c c c (run-short store main local state b _ _ h refl refl) (run-short store main local state (a + b) _ _ h refl refl) (refused-alike b c refl)
+
+    ran : 22 ≤ length state → Divide a b store main local state (ranBy r state) (runCall store main local state (a + b))
+    ran h =
         let same = loaded-after a store main local state in
         let goes = run-goes b store (r .main) (r .local) (loaded left) in
         known a b store main local state (ranBy r state) (ranBy q left) (ranBy w state)
-        (is-ran store main local state e a)
-        (is-ran store (r .main) (r .local) left (still-long (r .answer .count) (r .answer .state) state e) b)
-        (is-ran store main local state e (a + b))
+        (run-else store (r .main) (r .local) left b (still-long (r .answer .count) (r .answer .state) state h))
+        (run-else store main local state (a + b) h)
         (from-runs b r q w state (run-small a store main local s) (run-small b store (r .main) (r .local) (loaded left)) (run-small (a + b) store main local s)
         (λ none. ap (λ (m : Machine). m .state) (goes-none goes none) ∙ same)
         (divided a b store main local s r q w most refl (ap (runOf b store (r .main) (r .local)) same) refl))
@@ -206,20 +206,15 @@ module _ (store main local state : List ℕ) where
       by true = omega arith
       by false = answer-small (o .answer) refl (o .main) (o .local)
 
--- the number of a whole whose second part has a budget
-number-of : (x y n : ℕ) → codeIn x ≡ codeIn y → n + cyclesIn x ≡ cyclesIn y → x + 2 ^ 32 * n ≡ y
-number-of x y n code cycles = omega arith
-
 -- n cycles by the first, and then what is known of the second
 then-second : (b : ℕ) (first whole : Called) (code n ending ran : ℕ) (main local state : List ℕ) → (b ≡ 0 → ⊥) → first .number ≡ counted code n → code < 2 ^ 32
     → DividedCalls b first (called (counted ending ran) main local state) whole → whole ≡ called (counted ending (n + ran)) main local state
 then-second b first whole code n ending ran main local state some is small d =
     let same = rw (ne-eqb b 0 some) at (d .code) in
-    let c : cyclesIn (first .number) ≡ n = ap cyclesIn is ∙ cycles-in code n small in
-    let all : n + cyclesIn (counted ending ran) ≡ cyclesIn (whole .number) = ap (λ (k : ℕ). k + cyclesIn (counted ending ran)) (sym c) ∙ d .cycles in
-    let x = number-of (counted ending ran) (whole .number) n same all in
-    let number : whole .number ≡ counted ending (n + ran) = omega arith in
-    sym (λ i. called (sym number i) (d .in-main i) (d .in-local i) (d .in-state i))
+    let by-first : cyclesIn (first .number) ≡ n = ap cyclesIn is ∙ cycles-in code n small in
+    let all = d .cycles in
+    let number : counted ending (n + ran) ≡ whole .number = omega arith in
+    sym (λ i. called (number i) (d .in-main i) (d .in-local i) (d .in-state i))
 
 -- the last press, with the number of the run
 abbrev inOne : ℕ → List ℕ → Called → Called
@@ -243,41 +238,31 @@ some-presses (suc n) store c h =
 
 -- a budget of 0 touches nothing
 no-press : (store main local state : List ℕ) → Untouched main local state (runCall store main local state 0)
-no-press store main local state = run-keeps store main local state 0 (by (ltb (length state) 22) refl)
-  where
-    by : (z : Bool) → ltb (length state) 22 ≡ z → runCall store main local state 0 .number < 2 ^ 32
-    by true e = subst (λ (c : Called). c .number < 2 ^ 32) (sym (is-short store main local state e 0)) (omega arith)
-    by false e =
-        let r : Outcome Finished = runOf 0 store main local (loaded state) in
-        let code = code-small (r .answer .ending) (run-small 0 store main local (loaded state)) in
-        let none = count-within 0 store main local (loaded state) in
-        subst (λ (c : Called). c .number < 2 ^ 32) (sym (is-ran store main local state e 0)) (omega arith)
-
-pub same-machine : SameMachine
-same-machine zero store c h =
-    let e = no-press store (c .main) (c .local) (c .state) in
-    record {
-      in-state = sym (ap (λ (z : Called). z .state) e);
-      in-main = sym (ap (λ (z : Called). z .main) e);
-      in-local = sym (ap (λ (z : Called). z .local) e);
-      number = λ some. absurd (some refl);
-    }
-same-machine (suc n) store c h =
-    let e = some-presses n store c h in
-    record {
-      in-state = sym (ap (λ (z : Called). z .state) e);
-      in-main = sym (ap (λ (z : Called). z .main) e);
-      in-local = sym (ap (λ (z : Called). z .local) e);
-      number = λ some. sym (ap (λ (z : Called). z .number) e);
-    }
-
-pub calls-quiet : CallsQuiet
-unfolding runCall
-calls-quiet store main local state budget quiet = by (ltb (length state) 22)
+no-press store main local state = run-keeps store main local state 0 (by-record store main local state 0 (λ (c : Called). c .number < 2 ^ 32) (λ h. omega arith) ran)
   where
     r : Outcome Finished
-    r = runOf budget store main local (loaded state)
+    r = runOf 0 store main local (loaded state)
 
-    by : (z : Bool) → (cond z (short main local state) (ranBy r state) .main ≡ main) × (cond z (short main local state) (ranBy r state) .local ≡ local)
-    by true = (refl, refl)
-    by false = quiet-keeps budget store main local (loaded state) r quiet refl
+    ran : 22 ≤ length state → ranBy r state .number < 2 ^ 32
+    ran h =
+        let code = code-small (r .answer .ending) (run-small 0 store main local (loaded state)) in
+        let none = count-within 0 store main local (loaded state) in
+        omega arith
+
+shows : (n : ℕ) (store : List ℕ) (c : Called) (number : ℕ) → runCall store (c .main) (c .local) (c .state) n ≡ called number (presses n store c .main) (presses n store c .local) (presses n store c .state)
+    → ((n ≡ 0 → ⊥) → counted (asEnding (presses n store c .number)) (ranIn n store c) ≡ number) → Shows n store c
+shows n store c number e is =
+    record {
+      in-state = sym (ap (λ (z : Called). z .state) e);
+      in-main = sym (ap (λ (z : Called). z .main) e);
+      in-local = sym (ap (λ (z : Called). z .local) e);
+      number = λ some. is some ∙ sym (ap (λ (z : Called). z .number) e);
+    }
+
+pub same-machine : SameMachine
+same-machine zero store c h = shows 0 store c _ (no-press store (c .main) (c .local) (c .state)) (λ some. absurd (some refl))
+same-machine (suc n) store c h = shows (suc n) store c _ (some-presses n store c h) (λ some. refl)
+
+pub calls-quiet : CallsQuiet
+calls-quiet store main local state budget quiet =
+    by-record store main local state budget (λ (c : Called). (c .main ≡ main) × (c .local ≡ local)) (λ h. (refl, refl)) (λ h. quiet-keeps budget store main local (loaded state) _ quiet refl)

@@ -1,10 +1,10 @@
 -- Each function's ways to return, over plain values. Assumes nothing.
 use Prim.Native.Nat.{ℕ, _<_, _≤_}
-use mathlib.Core.Path.{_≡_, refl, sym, ap, _∙_}
+use mathlib.Core.Path.{_≡_, refl, sym, ap, subst, _∙_}
 use mathlib.Core.List.{List, [], _∷_}
 use mathlib.Core.Bool.{Bool, true, false, not, _||_}
 use native.Mathlib.Omega.{arith}
-use borrow.Author.Tests.{lt-ltb, le-ltb, ltb-false}
+use borrow.Author.Tests.{lt-ltb, le-ltb, ltb-true, ltb-false}
 use lib.Dec.{eqb, ltb}
 use lib.ListN.{length, set}
 use Rattle.digits.proofs.Truth.{neither}
@@ -23,7 +23,7 @@ use Rattle.decimal.specs.declared.Added.{Added}
 use Rattle.digits.specs.Lent.{over}
 use Rattle.channels.specs.Channels.{saved, loaded}
 use Rattle.panel.specs.Fields.{fieldsIn}
-use Rattle.panel.specs.Answers.{REFUSED, coded, counted, answered, answerApart, takeApartCall, answerPacked, packCall, called, cycled, cycledBy, cycleCall, endingCode, recordAfter, ranBy, runCall, answerNext, nextSumCall, startCall, addedCode, addedBy, addDecimalCall}
+use Rattle.panel.specs.Answers.{REFUSED, coded, counted, answered, answerApart, takeApartCall, answerPacked, packCall, Called, called, short, cycled, cycledBy, cycleCall, endingCode, recordAfter, ranBy, runCall, answerNext, nextSumCall, startCall, addedCode, addedBy, addDecimalCall}
 
 -- ---- a word
 
@@ -81,9 +81,18 @@ module _ (store main local state : List ℕ) (budget : ℕ) where
   unfolding runCall
   run-short k r h e q = rw (lt-ltb (length state) 22 h, q, e)
 
-  run-else : 22 ≤ length state → ranBy (runOf budget store main local (loaded state)) state ≡ runCall store main local state budget
+  pub run-else : 22 ≤ length state → ranBy (runOf budget store main local (loaded state)) state ≡ runCall store main local state budget
   unfolding runCall
   run-else h = rw (le-ltb (length state) 22 h)
+
+  -- a call is refused by 19, or is its run
+  pub by-record : (P : Called → Type 0) → (length state < 22 → P (short main local state)) → (22 ≤ length state → P (ranBy (runOf budget store main local (loaded state)) state))
+      → P (runCall store main local state budget)
+  by-record P refused ran = by (ltb (length state) 22) refl
+    where
+      by : (b : Bool) → ltb (length state) 22 ≡ b → P (runCall store main local state budget)
+      by true e = let h = ltb-true (length state) 22 e in subst P (run-short _ _ h refl refl) (refused h)
+      by false e = let h = ltb-false (length state) 22 e in subst P (run-else h) (ran h)
 
   pub run-any : (m l out : List ℕ) (s : State) (f : Finished) (k r : ℕ) → 22 ≤ length state → s ≡ loaded state → outcome f m l ≡ runOf budget store main local s
       → out ≡ recordAfter (f .count) (f .state) state → k ≡ endingCode (f .ending) → r ≡ counted k (f .count) → called r m l out ≡ runCall store main local state budget

@@ -1,5 +1,5 @@
 -- What the answers mean, and that no second answer fits. Assumes nothing.
-use Prim.Native.Nat.{ℕ, zero, suc, _^_, _<_}
+use Prim.Native.Nat.{ℕ, zero, suc, _^_, _<_, _≤_}
 use mathlib.Core.Path.{_≡_, refl, ap}
 use mathlib.Core.List.{List}
 use mathlib.Core.Bool.{Bool, true, false, cond}
@@ -22,6 +22,7 @@ use Rattle.run.proofs.Goes.{Machine, goes-none}
 use Rattle.run.proofs.Promises.{run-goes}
 use Rattle.channels.specs.Channels.{loaded}
 use Rattle.panel.specs.Answers.{RAN, coded, STOPPED, REFUSED, answered, Called, called, short, cycled, cycleCall, ranBy, runCall}
+use Rattle.panel.proofs.Calls.{by-record}
 use Rattle.panel.proofs.panel_take_apart.Reads as take-apart
 use Rattle.panel.proofs.panel_pack.Reads as pack
 use Rattle.panel.proofs.panel_cycle.Reads as cycle
@@ -65,15 +66,13 @@ ran-none r main local state e em el = rw (e, em, el)
 
 -- a run of which no cycle ran
 pub run-keeps : (store main local state : List ℕ) (budget : ℕ) → runCall store main local state budget .number < 2 ^ 32 → Untouched main local state (runCall store main local state budget)
-unfolding runCall
-run-keeps store main local state budget = by (ltb (length state) 22)
+run-keeps store main local state budget = by-record store main local state budget (λ (c : Called). c .number < 2 ^ 32 → Untouched main local state c) (λ short h. refl) ran
   where
     r : Outcome Finished
     r = runOf budget store main local (loaded state)
 
-    by : (b : Bool) → cond b (short main local state) (ranBy r state) .number < 2 ^ 32 → Untouched main local state (cond b (short main local state) (ranBy r state))
-    by true h = refl
-    by false h =
+    ran : 22 ≤ length state → ranBy r state .number < 2 ^ 32 → Untouched main local state (ranBy r state)
+    ran long h =
         let e : r .answer .count ≡ 0 = omega arith in
         let x = goes-none (run-goes budget store main local (loaded state)) e in
         ran-none r main local state e (ap (λ (m : Machine). m .main) x) (ap (λ (m : Machine). m .local) x)
