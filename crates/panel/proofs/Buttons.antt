@@ -31,7 +31,7 @@ use Rattle.channels.proofs.Trips.{state-back}
 use Rattle.panel.specs.Answers.{RAN, REFUSED, coded, counted, Called, called, short, cycled, cycledBy, cycleCall, endingCode, recordAfter, ranBy, runCall}
 use Rattle.panel.proofs.Calls.{run-short, run-else, by-record}
 use Rattle.panel.proofs.Promises.{Untouched, run-keeps}
-use Rattle.panel.specs.Buttons.{codeIn, cyclesIn, DividedCalls, CallsDivide, press, presses, ranIn, asEnding, Shows, SameMachine, CallsQuiet}
+use Rattle.panel.specs.Buttons.{codeIn, cyclesIn, DividedCalls, CallsDivide, pressCycle, pressRun, presses, ranIn, asEnding, Shows, SameMachine, CallsQuiet}
 
 -- ---- the number
 
@@ -121,19 +121,28 @@ from-runs b r q w state small-r small-q small-w still d =
 refused-alike : (b : ℕ) (c : Called) → cyclesIn (c .number) ≡ 0 → DividedCalls b c c c
 refused-alike b c none = record { in-state = refl; in-main = refl; in-local = refl; cycles = omega arith; code = either-way (eqb b 0) (codeIn (c .number)) }
 
-module _ (a b : ℕ) (store main local state : List ℕ) where
-  -- c and the second call, on what c left, make up the whole
+module _ (a b : ℕ) (store : List ℕ) (c : Called) where
+  -- the second call, on what the first left, makes up the whole
   abbrev Divide : Called → Called → Type 0
-  Divide c whole = DividedCalls b c (runCall store (c .main) (c .local) (c .state) b) whole
+  Divide first whole = DividedCalls b first (pressRun b store first) whole
 
   -- by what the second and the whole are
-  known : (c q w : Called) → q ≡ runCall store (c .main) (c .local) (c .state) b → w ≡ runCall store main local state (a + b) → DividedCalls b c q w → Divide c (runCall store main local state (a + b))
-  known c q w is-q is-w d = subst (Divide c) is-w (subst (λ (z : Called). DividedCalls b c z w) is-q d)
+  known : (first second whole : Called) → second ≡ pressRun b store first → whole ≡ pressRun (a + b) store c → DividedCalls b first second whole → Divide first (pressRun (a + b) store c)
+  known first second whole is-second is-whole d = subst (Divide first) is-whole (subst (λ (z : Called). DividedCalls b first z whole) is-second d)
 
 pub calls-divide : CallsDivide
-calls-divide a b store main local state most =
-    by-record store main local state a (λ (c : Called). Divide a b store main local state c (runCall store main local state (a + b))) refused ran
+calls-divide a b store c most =
+    by-record store main local state a (λ (first : Called). Divide a b store c first (pressRun (a + b) store c)) refused ran
   where
+    main : List ℕ
+    main = c .main
+
+    local : List ℕ
+    local = c .local
+
+    state : List ℕ
+    state = c .state
+
     s : State
     s = loaded state
 
@@ -149,16 +158,16 @@ calls-divide a b store main local state most =
     w : Outcome Finished
     w = runOf (a + b) store main local s
 
-    refused : length state < 22 → Divide a b store main local state (short main local state) (runCall store main local state (a + b))
+    refused : length state < 22 → Divide a b store c (short main local state) (pressRun (a + b) store c)
     refused h =
-        let c : Called = short main local state in
-        known a b store main local state c c c (run-short store main local state b _ _ h refl refl) (run-short store main local state (a + b) _ _ h refl refl) (refused-alike b c refl)
+        let first : Called = short main local state in
+        known a b store c first first first (run-short store main local state b _ _ h refl refl) (run-short store main local state (a + b) _ _ h refl refl) (refused-alike b first refl)
 
-    ran : 22 ≤ length state → Divide a b store main local state (ranBy r state) (runCall store main local state (a + b))
+    ran : 22 ≤ length state → Divide a b store c (ranBy r state) (pressRun (a + b) store c)
     ran h =
         let same = loaded-after a store main local state in
         let goes = run-goes b store (r .main) (r .local) (loaded left) in
-        known a b store main local state (ranBy r state) (ranBy q left) (ranBy w state)
+        known a b store c (ranBy r state) (ranBy q left) (ranBy w state)
         (run-else store (r .main) (r .local) left b (still-long (r .answer .count) (r .answer .state) state h))
         (run-else store main local state (a + b) h)
         (from-runs b r q w state (run-small a store main local s) (run-small b store (r .main) (r .local) (loaded left)) (run-small (a + b) store main local s)
@@ -222,17 +231,16 @@ inOne n store c =
     let last : Called = presses n store c in
     called (counted (asEnding (last .number)) (ranIn n store c)) (last .main) (last .local) (last .state)
 
-some-presses : (n : ℕ) (store : List ℕ) (c : Called) → suc n ≤ 1000000 → runCall store (c .main) (c .local) (c .state) (suc n) ≡ inOne (suc n) store c
+some-presses : (n : ℕ) (store : List ℕ) (c : Called) → suc n ≤ 1000000 → pressRun (suc n) store c ≡ inOne (suc n) store c
 some-presses zero store c h = press-is-run store (c .main) (c .local) (c .state)
 some-presses (suc n) store c h =
-    let c1 : Called = press store c in
+    let c1 : Called = pressCycle store c in
     let last : Called = presses (suc n) store c1 in
-    let whole : Called = runCall store (c .main) (c .local) (c .state) (1 + suc n) in
+    let whole : Called = pressRun (1 + suc n) store c in
     let two : suc (suc n) ≡ 1 + suc n = omega arith in
-    let d = calls-divide 1 (suc n) store (c .main) (c .local) (c .state) (omega arith) in
-    let pressed = subst (λ (z : Called). Divide 1 (suc n) store (c .main) (c .local) (c .state) z whole) (press-is-run store (c .main) (c .local) (c .state)) d in
+    let pressed = subst (λ (z : Called). Divide 1 (suc n) store c z whole) (press-is-run store (c .main) (c .local) (c .state)) (calls-divide 1 (suc n) store c (omega arith)) in
     let known = subst (λ (z : Called). DividedCalls (suc n) (shown c1) z whole) (some-presses n store c1 (omega arith)) pressed in
-    ap (runCall store (c .main) (c .local) (c .state)) two
+    ap (λ (k : ℕ). pressRun k store c) two
     ∙ then-second (suc n) (shown c1) whole (asEnding (c1 .number)) (one (eqb (c1 .number) RAN)) (asEnding (last .number)) (ranIn (suc n) store c1) (last .main) (last .local) (last .state)
     (λ z. omega arith) (ap (counted (asEnding (c1 .number))) (add-zero _)) (press-small store (c .main) (c .local) (c .state)) known
 
@@ -249,7 +257,7 @@ no-press store main local state = run-keeps store main local state 0 (by-record 
         let none = count-within 0 store main local (loaded state) in
         omega arith
 
-shows : (n : ℕ) (store : List ℕ) (c : Called) (number : ℕ) → runCall store (c .main) (c .local) (c .state) n ≡ called number (presses n store c .main) (presses n store c .local) (presses n store c .state)
+shows : (n : ℕ) (store : List ℕ) (c : Called) (number : ℕ) → pressRun n store c ≡ called number (presses n store c .main) (presses n store c .local) (presses n store c .state)
     → ((n ≡ 0 → ⊥) → counted (asEnding (presses n store c .number)) (ranIn n store c) ≡ number) → Shows n store c
 shows n store c number e is =
     record {
@@ -264,5 +272,6 @@ same-machine zero store c h = shows 0 store c _ (no-press store (c .main) (c .lo
 same-machine (suc n) store c h = shows (suc n) store c _ (some-presses n store c h) (λ some. refl)
 
 pub calls-quiet : CallsQuiet
-calls-quiet store main local state budget quiet =
-    by-record store main local state budget (λ (c : Called). (c .main ≡ main) × (c .local ≡ local)) (λ h. (refl, refl)) (λ h. quiet-keeps budget store main local (loaded state) _ quiet refl)
+calls-quiet budget store c quiet =
+    by-record store (c .main) (c .local) (c .state) budget (λ (z : Called). (z .main ≡ c .main) × (z .local ≡ c .local)) (λ h. (refl, refl))
+    (λ h. quiet-keeps budget store (c .main) (c .local) (loaded (c .state)) _ quiet refl)

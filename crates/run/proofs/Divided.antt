@@ -93,56 +93,43 @@ in-all store a (suc b) m = by (spent-or-not (r .answer .ending))
 -- ---- with 1 and 22
 
 module _ (a b : ℕ) (store : List ℕ) (m : Machine) (most : a + b ≤ 1000000) where
-  -- r and the second run, from where r ended, are the whole
-  abbrev Whole : Outcome Finished → Type 0
-  Whole r = together b r (runAt b store (standing r)) ≡ runAt (a + b) store m
+  -- r and the run of b from where it ended are the whole; and where r stopped or was refused, so is the run of b
+  abbrev Divides : Outcome Finished → Type 0
+  Divides r =
+      (together b r (runAt b store (standing r)) ≡ runAt (a + b) store m)
+      × ((r .answer .ending ≡ Spent → ⊥) → 0 < b → runAt b store (standing r) ≡ ended (r .answer .ending) (r .answer .state) 0 (r .main) (r .local))
 
-  whole : Whole (runAt a store m)
-  whole = by-sizes store m a (omega arith) Whole wrong right
+  divides : Divides (runAt a store m)
+  divides = by-sizes store m a (omega arith) Divides wrong right
     where
-      wrong : Wrong store m → Whole (refusedBy1 m)
+      wrong : Wrong store m → Divides (refusedBy1 m)
       wrong e =
           let refused = wrong-refused store m e in
-          adds-nothing b (refusedBy1 m) (runAt b store m) (Refused 1 0) (sym (refused b)) (either-way (eqb b 0) (Refused 1 0)) ∙ refused (a + b)
+          (adds-nothing b (refusedBy1 m) (runAt b store m) (Refused 1 0) (sym (refused b)) (either-way (eqb b 0) (Refused 1 0)) ∙ refused (a + b), λ other some. sym (refused b))
 
-      right : Right store m → Whole (runFrom a 0 store m)
+      right : Right store m → Divides (runFrom a 0 store m)
       right e =
           let r : Outcome Finished = runFrom a 0 store m in
-          let still = goes-right (done a 0 store m .goes) e in
-          ap (together b r) (sym (right-begins store (standing r) still b (omega arith))) ∙ in-all store a b m ∙ right-begins store m e (a + b) most
-
-  -- r stopped, or was refused, and so is the second run
-  abbrev Again : Outcome Finished → Type 0
-  Again r = (r .answer .ending ≡ Spent → ⊥) → 0 < b → runAt b store (standing r) ≡ ended (r .answer .ending) (r .answer .state) 0 (r .main) (r .local)
-
-  again : Again (runAt a store m)
-  again = by-sizes store m a (omega arith) Again wrong right
-    where
-      wrong : Wrong store m → Again (refusedBy1 m)
-      wrong e other some = sym (wrong-refused store m e b)
-
-      right : Right store m → Again (runFrom a 0 store m)
-      right e other some =
-          let r : Outcome Finished = runFrom a 0 store m in
           let d = done a 0 store m in
-          sym (right-begins store (standing r) (goes-right (d .goes) e) b (omega arith)) ∙ at-once store a b m r d other some
+          let second = sym (right-begins store (standing r) (goes-right (d .goes) e) b (omega arith)) in
+          (ap (together b r) second ∙ in-all store a b m ∙ right-begins store m e (a + b) most, λ other some. second ∙ at-once store a b m r d other some)
 
 pub divided : BudgetsDivide
-divided a b store main local s first second total most f g w =
+divided a b store main local s first second whole most f g w =
     record {
       state = ap (λ (z : Outcome Finished). z .answer .state) e;
       in-main = ap (λ (z : Outcome Finished). z .main) e;
       in-local = ap (λ (z : Outcome Finished). z .local) e;
       count = ap (λ (z : Outcome Finished). z .answer .count) e;
       ending = ap (λ (z : Outcome Finished). z .answer .ending) e;
-      again = λ other some. g ∙ subst (Again a b store m most) (sym f) (again a b store m most) other (omega (arith, some));
+      again = λ other some. g ∙ d .1 other (omega (arith, some));
     }
   where
-    m : Machine
-    m = machine s main local
+    d : Divides a b store (machine s main local) most first
+    d = subst (Divides a b store (machine s main local) most) (sym f) (divides a b store (machine s main local) most)
 
-    e : together b first second ≡ total
-    e = ap (together b first) g ∙ subst (Whole a b store m most) (sym f) (whole a b store m most) ∙ sym w
+    e : together b first second ≡ whole
+    e = ap (together b first) g ∙ d .0 ∙ sym w
 
 -- ---- a run of one cycle is that cycle, whatever the sizes
 
