@@ -19,14 +19,14 @@ use Rattle.machine.specs.Cycle.{Outcome, outcome}
 use Rattle.run.specs.Run.{ended}
 use Rattle.run.specs.declared.Finished.{Finished}
 use Rattle.run.specs.declared.Ending.the-variants.{Stopped}
-use Rattle.run.proofs.Goes.{Machine, machine, Goes}
+use Rattle.run.proofs.Goes.{Machine, machine, Halts, Goes}
 use Rattle.decimal.specs.Program.{shipped}
 use Rattle.decimal.specs.Value.{value, decimalField}
 use Rattle.decimal.specs.Entry.{pastEnd, overlap, addChecks, start, bound, runFor, answeredAt, fromRun, addOf}
 use Rattle.decimal.specs.Promise.{untilBad, cyclesIn, exactSum, Sums, Bad, Untouched, bothFields, Promise}
 use Rattle.decimal.specs.declared.Added.{Added}
 use Rattle.decimal.specs.declared.Added.the-variants.{Summed, BadDigit, Refused}
-use Rattle.decimal.proofs.Steps.{idle, Halts, run-stops}
+use Rattle.decimal.proofs.Steps.{idle, run-stops}
 use Rattle.decimal.proofs.Pairs.{s0-kept}
 use Rattle.decimal.proofs.Fields.{sound-field, value-lt, remainder, quotient}
 use Rattle.decimal.proofs.Pass2.{Clear}

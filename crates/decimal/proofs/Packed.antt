@@ -17,9 +17,9 @@ use Rattle.word.specs.declared.Packed.the-variants as P
 use Rattle.machine.specs.Storage.{outside}
 use Rattle.machine.specs.Modelled.{unmodelledOf}
 use Rattle.machine.specs.Cycle.{stops, accessIn}
-use Rattle.run.proofs.Goes.{Machine, Right}
+use Rattle.run.proofs.Goes.{Machine, Leads, Halts, Right}
 use Rattle.decimal.specs.Program.{Microword, microword, program, shipped}
-use Rattle.decimal.proofs.Steps.{leaves, Holds, Leads, Halts, runs, halts}
+use Rattle.decimal.proofs.Steps.{leaves, Holds, runs, halts}
 
 abbrev blank : Microword
 blank = microword 0 (0, 0, 0) 0 (0, 0) (0, 0, 0) (0, 0) 0

@@ -22,11 +22,11 @@ use Rattle.machine.specs.Modelled.{unmodelledOf}
 use Rattle.machine.specs.Cycle.{outcome}
 use Rattle.machine.specs.declared.State.{State}
 use Rattle.machine.specs.declared.Cycled.the-variants as C
-use Rattle.run.proofs.Goes.{machine, Goes, here, next, join, Right}
+use Rattle.run.proofs.Goes.{machine, Leads, Halts, Goes, here, next, join, Right}
 use Rattle.decimal.specs.Value.{decimalField}
 use Rattle.decimal.specs.Promise.{untilBad}
 use Rattle.decimal.specs.Program.{shipped}
-use Rattle.decimal.proofs.Steps.{idle, stateAfter, Leads, Halts, branch}
+use Rattle.decimal.proofs.Steps.{idle, stateAfter, branch}
 use Rattle.decimal.proofs.Packed.{fieldsAt, step, stop}
 use Rattle.decimal.proofs.Pairs.{one-less, some-left, none-left, moved, s0-kept}
 

@@ -23,10 +23,10 @@ use Rattle.machine.specs.Modelled.{unmodelledOf}
 use Rattle.machine.specs.Cycle.{outcome}
 use Rattle.machine.specs.declared.State.{State}
 use Rattle.machine.specs.declared.Cycled.the-variants as C
-use Rattle.run.proofs.Goes.{machine, Goes, here, next, join, Right}
+use Rattle.run.proofs.Goes.{machine, Leads, Goes, here, next, join, Right}
 use Rattle.decimal.specs.Value.{value}
 use Rattle.decimal.specs.Program.{shipped}
-use Rattle.decimal.proofs.Steps.{idle, stateAfter, Leads, branch}
+use Rattle.decimal.proofs.Steps.{idle, stateAfter, branch}
 use Rattle.decimal.proofs.Packed.{fieldsAt, step}
 use Rattle.decimal.proofs.Pairs.{one-less, some-left, none-left, same, carry-byte, byte-carry, moved, s0-kept}
 use Rattle.decimal.proofs.Pass1.{uv, ij, Ready}

@@ -16,11 +16,10 @@ use Rattle.machine.specs.Modelled.{unmodelledOf}
 use Rattle.machine.specs.Cycle.{stops, accessIn, after, ranOf, stepOf, cycleOf}
 use Rattle.machine.specs.declared.State.{State}
 use Rattle.machine.specs.declared.Access.{Access}
-use Rattle.machine.specs.declared.Cycled.the-variants as C
 use Rattle.machine.proofs.Cycles.{on-stop, on-ran, on-apart}
 use Rattle.run.specs.Run.{ended, runOf}
 use Rattle.run.specs.declared.Ending.the-variants.{Stopped}
-use Rattle.run.proofs.Goes.{Machine, machine, Answers, Goes, Right, ends}
+use Rattle.run.proofs.Goes.{Machine, machine, Leads, Halts, Goes, Right, ends}
 use Rattle.run.proofs.Promises.{right-begins}
 
 -- a state of which only this is known: the address, the latch off, nothing arriving, main selected
@@ -63,13 +62,6 @@ leaves f m =
     let e : State = entered f (m .state) in
     let a : Access = accessOf f e in
     machine (stateAfter f (m .main) (m .local) (m .state)) (mainAfter (m .main) a (e .r)) (localAfter (m .local) a (e .r))
-
--- one cycle leads from a machine to another, or stops there
-abbrev pub Leads : List ℕ → Machine → Machine → Type 0
-Leads store m x = Answers store m (C.Ran (x .state)) x
-
-abbrev pub Halts : List ℕ → Machine → Type 0
-Halts store m = Answers store m (C.Stopped (m .state)) m
 
 -- X7 by a test, where W is 0
 abbrev pub branch : ℕ → Bool → ℕ

@@ -18,11 +18,11 @@ use Rattle.machine.specs.Storage.{accessOf}
 use Rattle.machine.specs.Status.{statusOf}
 use Rattle.machine.specs.Modelled.{unmodelledOf}
 use Rattle.machine.specs.declared.State.{State}
-use Rattle.run.proofs.Goes.{machine, Goes, here, next, join, Right}
+use Rattle.run.proofs.Goes.{machine, Leads, Halts, Goes, here, next, join, Right}
 use Rattle.decimal.specs.Value.{decimalField}
 use Rattle.decimal.specs.Program.{shipped}
 use Rattle.decimal.specs.Promise.{untilBad}
-use Rattle.decimal.proofs.Steps.{idle, stateAfter, Leads, Halts}
+use Rattle.decimal.proofs.Steps.{idle, stateAfter}
 use Rattle.decimal.proofs.Packed.{fieldsAt, step, stop}
 use Rattle.decimal.proofs.Pairs.{same, carry-byte, byte-carry, s0-kept}
 use Rattle.decimal.proofs.Fields.{field-sound}

@@ -31,10 +31,17 @@ machine state main local = record { state = state; main = main; local = local }
 abbrev pub Answers : List ℕ → Machine → Cycled → Machine → Type 0
 Answers store m r x = outcome r (x .main) (x .local) ≡ cycleOf store (m .main) (m .local) (m .state)
 
+-- one cycle leads from a machine to another, or stops there
+abbrev pub Leads : List ℕ → Machine → Machine → Type 0
+Leads store m x = Answers store m (C.Ran (x .state)) x
+
+abbrev pub Halts : List ℕ → Machine → Type 0
+Halts store m = Answers store m (C.Stopped (m .state)) m
+
 -- n cycles from one machine to another, each of which ran
 pub data Goes (store : List ℕ) : ℕ → Machine → Machine → Type 0 where
   here : {m : Machine} → Goes store 0 m m
-  next : {n : ℕ} {m x z : Machine} → Answers store m (C.Ran (x .state)) x → Goes store n x z → Goes store (suc n) m z
+  next : {n : ℕ} {m x z : Machine} → Leads store m x → Goes store n x z → Goes store (suc n) m z
 
 pub join : {store : List ℕ} {k n : ℕ} {m x z : Machine} → Goes store k m x → Goes store n x z → Goes store (k + n) m z
 join here g = rw zero-add g
@@ -46,7 +53,7 @@ goes-none here e = refl
 goes-none (next a g) e = absurd (omega arith)
 
 -- what each of them keeps, all keep
-pub goes-keep : {store : List ℕ} {n : ℕ} {m x : Machine} (P : Machine → Type 0) → ((y z : Machine) → Answers store y (C.Ran (z .state)) z → P y → P z)
+pub goes-keep : {store : List ℕ} {n : ℕ} {m x : Machine} (P : Machine → Type 0) → ((y z : Machine) → Leads store y z → P y → P z)
     → Goes store n m x → P m → P x
 goes-keep P keeps here p = p
 goes-keep P keeps (next {m = m} {x = x} a g) p = goes-keep P keeps g (keeps m x a p)
@@ -61,7 +68,7 @@ Right store m = sizesWrong (length store) (length (m .main)) (length (m .local))
 pub goes-right : {store : List ℕ} {n : ℕ} {m x : Machine} → Goes store n m x → Right store m → Right store x
 goes-right {store} = goes-keep (Right store) still
   where
-    still : (y z : Machine) → Answers store y (C.Ran (z .state)) z → Right store y → Right store z
+    still : (y z : Machine) → Leads store y z → Right store y → Right store z
     still y z a right =
         let same = sizes-stay store (y .main) (y .local) (y .state) in
         (λ i. sizesWrong (length store) ((ap (λ (o : Outcome Cycled). length (o .main)) a ∙ same .of-main) i) ((ap (λ (o : Outcome Cycled). length (o .local)) a ∙ same .of-local) i)) ∙ right
@@ -69,7 +76,7 @@ goes-right {store} = goes-keep (Right store) still
 -- what the last cycle answered, or that the budget is spent
 abbrev pub Ends : List ℕ → ℕ → ℕ → Ending → Machine → Type 0
 Ends store budget n Spent x = n ≡ budget
-Ends store budget n Stopped x = (n < budget) × Answers store x (C.Stopped (x .state)) x
+Ends store budget n Stopped x = (n < budget) × Halts store x
 Ends store budget n (Refused number field) x = (n < budget) × Answers store x (C.Refused (x .state) number field) x
 
 -- ---- from the cycles to the run
@@ -132,7 +139,7 @@ ends-later store budget n Spent x e k more all m a = omega arith
 ends-later store budget n Stopped x (h, r) k more all m a = (omega arith, r)
 ends-later store budget n (Refused number field) x (h, r) k more all m a = (omega arith, r)
 
-one-more : {store : List ℕ} {budget k count : ℕ} {m y x : Machine} {ending : Ending} → Answers store m (C.Ran (y .state)) y
+one-more : {store : List ℕ} {budget k count : ℕ} {m y x : Machine} {ending : Ending} → Leads store m y
     → Done store budget (k + 1) y ending x count → Done store (suc budget) k m ending x count
 one-more {store} {budget} {k} {count} {m} {y} {x} {ending} a d =
     record {

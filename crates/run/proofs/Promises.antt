@@ -175,3 +175,13 @@ run-by-table-sole κs args r q x y a b = sole a b
 
 pub table-agrees : (κs : _) (args : _) (r q : Finished) (x y : _) → run.Post κs args r x → run-by-table.Post κs args q y → outcome r (now (x .1 .0)) (now (x .1 .1 .0)) ≡ outcome q (now (y .1 .0)) (now (y .1 .1 .0))
 table-agrees κs args r q x y a b = sole a b
+
+-- ---- what the statements of specs/Divided.antt ask of a run is what both contracts promise, as the prover reads them
+
+pub run-promises : (κs : _) (args : _) (r : Finished) (x : _) → run.Post κs args r x
+    → outcome r (now (x .1 .0)) (now (x .1 .1 .0)) ≡ runOf (args .1 .1 .1 .1 .0) (now (args .0)) (now (args .1 .0)) (now (args .1 .1 .0)) (args .1 .1 .1 .0)
+run-promises κs args r x promised = promised
+
+pub run-by-table-promises : (κs : _) (args : _) (r : Finished) (x : _) → run-by-table.Post κs args r x
+    → outcome r (now (x .1 .0)) (now (x .1 .1 .0)) ≡ runOf (args .1 .1 .1 .1 .0) (now (args .0)) (now (args .1 .0)) (now (args .1 .1 .0)) (args .1 .1 .1 .0)
+run-by-table-promises κs args r x promised = promised

@@ -16,11 +16,10 @@ use Rattle.machine.specs.Storage.{readsLocal, idle, accesses, accessOf}
 use Rattle.machine.specs.declared.State.{State}
 use Rattle.machine.specs.declared.Access.{Access}
 use Rattle.machine.specs.declared.Cycled.{Cycled}
-use Rattle.machine.specs.declared.Cycled.the-variants as C
 use Rattle.machine.proofs.Promises.{ran-exactly}
 use Rattle.run.specs.Divided.{writes, Quiet, QuietKeeps}
 use Rattle.run.specs.declared.Finished.{Finished}
-use Rattle.run.proofs.Goes.{Machine, Answers, goes-keep}
+use Rattle.run.proofs.Goes.{Machine, Leads, goes-keep}
 use Rattle.run.proofs.Promises.{run-goes}
 
 -- a byte is put in the rows of Write and Store alone
@@ -41,7 +40,7 @@ ran-holds f main local s h =
     (rw e, rw e)
 
 -- a cycle that ran
-cycle-holds : (store : List ℕ) → Quiet store → (main local : List ℕ) (y z : Machine) → Answers store y (C.Ran (z .state)) z → Holding main local y → Holding main local z
+cycle-holds : (store : List ℕ) → Quiet store → (main local : List ℕ) (y z : Machine) → Leads store y z → Holding main local y → Holding main local z
 unfolding cycleOf
 cycle-holds store quiet main local y z o (same-main, same-local) =
     let s : State = y .state in

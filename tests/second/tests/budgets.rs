@@ -83,6 +83,20 @@ fn draw_case(random: &mut Random) -> Bench {
     bench_of(drawn)
 }
 
+/// What is made of each of some drawn cases.
+fn of_cases<Made, const EACH: usize>(
+    seed: u64,
+    cases: usize,
+    make: impl Fn(&mut Random, Bench) -> [Made; EACH],
+) -> Vec<Made> {
+    let random = &mut Random::new(seed);
+    let drawn = |_| {
+        let case = draw_case(random);
+        make(random, case)
+    };
+    (0..cases).flat_map(drawn).collect()
+}
+
 /// A record that is too short is taken as zeros: how the panel answers it is not asked here.
 fn bench_of(Lent { store, main, local, state }: Lent) -> Bench {
     let state = state.first_chunk().map(State::from_bytes).unwrap_or_default();
@@ -120,12 +134,7 @@ const DIVISIONS: [Kind<Division>; 21] = [
 
 #[test]
 fn budgets_may_be_divided() {
-    let random = &mut Random::new(15);
-    let mut seen = Vec::new();
-    for _ in 0..2000 {
-        let bench = draw_case(random);
-        seen.extend([0; 4].map(|_| divided(&bench, draw_budgets(random).map(u64::from))));
-    }
+    let seen = of_cases(15, 2000, |random, bench| [0; 4].map(|_| divided(&bench, draw_budgets(random).map(u64::from))));
     each_occurs(&DIVISIONS, &seen);
     let numbers: BTreeSet<u8> = seen.iter().filter_map(|case| refused_later(case.ran[0])).collect();
     // 8 is drawn too seldom to be asked for.
@@ -209,12 +218,7 @@ const RUNS: [Kind<Ran>; 7] = [
 
 #[test]
 fn single_cycles_are_a_run() {
-    let random = &mut Random::new(17);
-    let mut seen = Vec::new();
-    for _ in 0..2000 {
-        let bench = draw_case(random);
-        seen.extend([2, 40].map(|most| pressed(&bench, random.below(most))));
-    }
+    let seen = of_cases(17, 2000, |random, bench| [2, 40].map(|most| pressed(&bench, random.below(most))));
     each_occurs(&RUNS, &seen);
 }
 
@@ -274,13 +278,10 @@ const QUIET: [Kind<Quiet>; 11] = [
 
 #[test]
 fn a_quiet_store_leaves_storage_as_found() {
-    let random = &mut Random::new(19);
-    let mut seen = Vec::new();
-    for _ in 0..1500 {
-        let case = draw_case(random);
+    let seen = of_cases(19, 1500, |random, case| {
         let bench = quieted(random, case);
-        seen.extend([0, 1, 4, 40, 400, MOST_BUDGET + 1].map(|budget| ran_quietly(&bench, budget)));
-    }
+        [0, 1, 4, 40, 400, MOST_BUDGET + 1].map(|budget| ran_quietly(&bench, budget))
+    });
     each_occurs(&QUIET, &seen);
 }
 
