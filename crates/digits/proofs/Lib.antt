@@ -10,3 +10,5 @@ pub mod Promises
 pub mod Number
 pub mod Lists
 pub mod Puts
+pub mod Tens
+pub mod Packed

@@ -7,3 +7,5 @@ pub mod Sizes
 pub mod Lent
 pub mod Number
 pub mod Lists
+pub mod Tens
+pub mod Packed

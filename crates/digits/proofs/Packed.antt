@@ -1,0 +1,98 @@
+-- Digits packed and unpacked, and what the table of signs says of each digit. Assumes nothing.
+use Prim.Native.Nat.{ℕ, zero, suc, _+_, _*_, _<_}
+use mathlib.Core.Path.{_≡_, refl, ap, ap₂}
+use mathlib.Core.Bool.{Bool, true, false, _||_}
+use mathlib.Core.List.{List, [], _∷_, _++_}
+use native.Mathlib.Omega.{arith}
+use lib.Dec.{T, eqb, ltb, lit<}
+use lib.IntN.{ℤ, pos, negsuc, natAbs}
+use lib.ListN.{length, getD, replicate}
+use Rattle.digits.specs.Digits.{high, low, digits}
+use Rattle.digits.specs.Table.{every}
+use Rattle.digits.specs.Packed.{unpacked, packed, signOf, isMinus, isNone, preferred, signed, belowZero}
+use Rattle.digits.proofs.Table.{Below, at}
+
+-- ---- digits in bytes
+
+pub length-unpacked : (bs : List ℕ) → length (unpacked bs) ≡ 2 * length bs
+length-unpacked [] = refl
+length-unpacked (b ∷ bs) = let e = length-unpacked bs in omega arith
+
+-- the digits of one byte
+pub unpacked-high : (bs : List ℕ) (i : ℕ) → getD (unpacked bs) (2 * i) 0 ≡ high (getD bs i 0)
+unpacked-high [] i = refl
+unpacked-high (b ∷ bs) zero = refl
+unpacked-high (b ∷ bs) (suc i) = let e : 2 * suc i ≡ suc (suc (2 * i)) = omega arith in rw e (unpacked-high bs i)
+
+pub unpacked-low : (bs : List ℕ) (i : ℕ) → getD (unpacked bs) (2 * i + 1) 0 ≡ low (getD bs i 0)
+unpacked-low [] i = refl
+unpacked-low (b ∷ bs) zero = refl
+unpacked-low (b ∷ bs) (suc i) = let e : 2 * suc i + 1 ≡ suc (suc (2 * i + 1)) = omega arith in rw e (unpacked-low bs i)
+
+pub packed-unpacked : (bs : List ℕ) → packed (unpacked bs) ≡ bs
+packed-unpacked [] = refl
+packed-unpacked (b ∷ bs) = let e : digits (high b) (low b) ≡ b = omega arith in ap₂ (λ (x : ℕ) (l : List ℕ). x ∷ l) e (packed-unpacked bs)
+
+-- of an even number of digits
+pub unpacked-packed : (k : ℕ) (ds : List ℕ) → length ds ≡ 2 * k → Below 16 ds → unpacked (packed ds) ≡ ds
+unpacked-packed k [] e b = refl
+unpacked-packed k (h ∷ []) e b = absurd (omega arith)
+unpacked-packed zero (h ∷ l ∷ ds) e b = absurd (omega arith)
+unpacked-packed (suc k) (h ∷ l ∷ ds) e b =
+    let small = b .1 .0 in
+    let x : high (digits h l) ≡ h = omega arith in
+    let y : low (digits h l) ≡ l = omega arith in
+    rw (x, y, unpacked-packed k ds (omega arith) (b .1 .1))
+
+-- they are bytes
+pub packed-below : (ds : List ℕ) → Below 16 ds → Below 256 (packed ds)
+packed-below [] b = tt
+packed-below (h ∷ []) b = tt
+packed-below (h ∷ l ∷ ds) b = let x = b .0 in let y = b .1 .0 in (omega arith, packed-below ds (b .1 .1))
+
+pub packed-append : (k : ℕ) (xs ys : List ℕ) → length xs ≡ 2 * k → packed (xs ++ ys) ≡ packed xs ++ packed ys
+packed-append k [] ys e = refl
+packed-append k (h ∷ []) ys e = absurd (omega arith)
+packed-append zero (h ∷ l ∷ xs) ys e = absurd (omega arith)
+packed-append (suc k) (h ∷ l ∷ xs) ys e = ap (λ (r : List ℕ). digits h l ∷ r) (packed-append k xs ys (omega arith))
+
+-- ---- signs
+abbrev same : Bool → Bool → Bool
+same true b = b
+same false true = false
+same false false = true
+
+same-is : (a b : Bool) → T (same a b) → a ≡ b
+same-is true true t = refl
+same-is true false t = absurd t
+same-is false true t = absurd t
+same-is false false t = refl
+
+-- two tests that pass for the same of the sixteen digits, which is computed once
+sixteen : (f g : ℕ → Bool) → T (every (λ d x. same (f d) (g d)) 0 (replicate 16 0)) → (d : ℕ) → d < 16 → f d ≡ g d
+sixteen f g t d h = same-is (f d) (g d) (at (λ i x. same (f i) (g i)) (replicate 16 0) t d h)
+
+-- B and D are minus
+pub minus-digits : (d : ℕ) → d < 16 → isMinus (signOf d) ≡ (eqb d 11 || eqb d 13)
+minus-digits d h = sixteen (λ i. isMinus (signOf i)) (λ i. eqb i 11 || eqb i 13) tt d h
+
+-- a digit below A is no sign, and every other is one
+pub none-digits : (d : ℕ) → d < 16 → isNone (signOf d) ≡ ltb d 10
+none-digits d h = sixteen (λ i. isNone (signOf i)) (λ i. ltb i 10) tt d h
+
+-- the sign that is written is one, and says what it was written for
+pub preferred-is : (minus : Bool) → (isMinus (signOf (preferred minus)) ≡ minus) × (isNone (signOf (preferred minus)) ≡ false) × (preferred minus < 16)
+preferred-is true = (refl, refl, lit< tt)
+preferred-is false = (refl, refl, lit< tt)
+
+-- ---- whole numbers
+
+pub size-signed : (minus : Bool) (n : ℕ) → natAbs (signed minus n) ≡ n
+size-signed true zero = refl
+size-signed true (suc n) = refl
+size-signed false n = refl
+
+-- a number is that of its sign and size
+pub signed-size : (z : ℤ) → signed (belowZero z) (natAbs z) ≡ z
+signed-size (pos n) = refl
+signed-size (negsuc n) = refl

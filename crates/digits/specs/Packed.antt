@@ -1,0 +1,75 @@
+-- Packed fields: digits two to a byte, and a sign in the last place. Assumes nothing.
+use Prim.Native.Nat.{ℕ}
+use mathlib.Core.List.{List, [], _∷_}
+use mathlib.Core.Bool.{Bool, true, false, cond}
+use lib.IntN.{ℤ, pos, negsuc, negℤ}
+use lib.ListN.{getD}
+use Rattle.digits.specs.Digits.{high, low, digits}
+
+-- ---- digits in bytes
+
+-- the digits of some bytes, high digit first
+abbrev pub unpacked : List ℕ → List ℕ
+unpacked [] = []
+unpacked (b ∷ bs) = high b ∷ low b ∷ unpacked bs
+
+-- the bytes of some digits, two to a byte
+abbrev pub packed : List ℕ → List ℕ
+packed [] = []
+packed (h ∷ []) = []
+packed (h ∷ l ∷ ds) = digits h l ∷ packed ds
+
+-- ---- signs
+
+pub data Sign : Type 0 where
+  NoSign : Sign
+  Plus : Sign
+  Minus : Sign
+
+-- what each digit is as a sign: "A, C, E, F plus, B, D minus, as the Principles of Operation has it"
+abbrev pub signs : List Sign
+signs =
+    NoSign ∷  -- 0
+    NoSign ∷  -- 1
+    NoSign ∷  -- 2
+    NoSign ∷  -- 3
+    NoSign ∷  -- 4
+    NoSign ∷  -- 5
+    NoSign ∷  -- 6
+    NoSign ∷  -- 7
+    NoSign ∷  -- 8
+    NoSign ∷  -- 9
+    Plus ∷  -- A
+    Minus ∷  -- B
+    Plus ∷  -- C
+    Minus ∷  -- D
+    Plus ∷  -- E
+    Plus ∷  -- F
+    []
+
+abbrev pub signOf : ℕ → Sign
+signOf digit = getD signs digit NoSign
+
+abbrev pub isMinus : Sign → Bool
+isMinus NoSign = false
+isMinus Plus = false
+isMinus Minus = true
+
+abbrev pub isNone : Sign → Bool
+isNone NoSign = true
+isNone Plus = false
+isNone Minus = false
+
+-- the sign that is written: "C or D"
+abbrev pub preferred : Bool → ℕ
+preferred minus = cond minus 0xD 0xC
+
+-- ---- whole numbers
+
+-- the number of a size, below zero or not; minus zero is 0
+abbrev pub signed : Bool → ℕ → ℤ
+signed minus n = cond minus (negℤ (pos n)) (pos n)
+
+abbrev pub belowZero : ℤ → Bool
+belowZero (pos n) = false
+belowZero (negsuc n) = true

@@ -1,0 +1,5 @@
+pub mod Whole
+pub mod Fields
+pub mod Answers
+pub mod Trips
+pub mod Promises

@@ -1,0 +1,183 @@
+-- What was written reads back; what was read is written back for the signs C and D, minus zero excepted; and every number of at most fifteen digits is read from some field. Assumes nothing.
+use Prim.Native.Nat.{ℕ, zero, suc, _+_, _^_, _<_, _≤_}
+use mathlib.Core.Path.{_≡_, refl, sym, ap, _∙_}
+use mathlib.Core.List.{List, [], _∷_, _++_}
+use mathlib.Core.Bool.{Bool, true, false, cond, not}
+use mathlib.Core.Logic.{inl, inr}
+use borrow.Author.Tests.{ltb-false, leb-false, eqb-true, le-ltb}
+use native.Mathlib.Nat.{add-zero}
+use native.Mathlib.Omega.{arith}
+use lib.Dec.{eqb, ltb}
+use lib.IntN.{ℤ, pos, negsuc, natAbs}
+use lib.ListN.{length, getD, take, drop, length-append, take-append-drop}
+use lib.Seq.{take-at, getD-at, drop-cons, drop-length}
+use Rattle.digits.specs.Packed.{unpacked, packed, signOf, isMinus, isNone, preferred, signed, belowZero}
+use Rattle.digits.specs.Tens.{lastDigits, tens}
+use Rattle.digits.proofs.Refusals.{Tells, given-none}
+use Rattle.digits.proofs.Table.{Below, each-append, each-into}
+use Rattle.digits.proofs.Truth.{zero-one, true-not-false}
+use Rattle.digits.proofs.Tens.{length-last, last-below, tens-last, last-tens, tens-lt}
+use Rattle.digits.proofs.Packed.{length-unpacked, packed-unpacked, unpacked-packed, packed-below, preferred-is, size-signed, signed-size}
+use Rattle.signed.specs.Signed.{fifteen, signDigit, fieldWrong, overNine, badPlace, readChecks, numberIn, readOf, writeChecks, fieldOf, fieldFor, writeOf, fieldAfter}
+use Rattle.signed.specs.Trips.{ReadsBack, Kept, WritesBack, Shows, Reached}
+use Rattle.signed.specs.declared.ReadOut.the-variants as R
+use Rattle.signed.specs.declared.Wrote.the-variants as W
+use Rattle.signed.proofs.Fields.{all}
+use Rattle.signed.proofs.Answers.{read-number, written}
+
+-- ---- the digits over 9
+
+-- none of digits that are at most 9
+over-none : (i : ℕ) (ds : List ℕ) → Below 10 ds → overNine i ds ≡ i + length ds
+over-none i [] b = sym (add-zero i)
+over-none i (d ∷ ds) b =
+    let h : d ≤ 9 = (let l = b .0 in omega arith) in
+    rw (le-ltb 9 d h) (over-none (suc i) ds (b .1) ∙ omega arith)
+
+-- and where there is none, each is at most 9
+none-over : (i : ℕ) (ds : List ℕ) → i + length ds ≤ overNine i ds → Below 10 ds
+none-over i [] h = tt
+none-over i (d ∷ ds) h = by (ltb 9 d) refl h (none-over (suc i) ds)
+  where
+    by : (t : Bool) → ltb 9 d ≡ t → i + suc (length ds) ≤ cond t i (overNine (suc i) ds) → (suc i + length ds ≤ overNine (suc i) ds → Below 10 ds) → Below 10 (d ∷ ds)
+    by true e h on = absurd (omega arith)
+    by false e h on = let l = ltb-false 9 d e in (omega arith, on (omega arith))
+
+-- a refusal tells its number, and is no number
+pub reading-tells : Tells R.Number R.Refused
+reading-tells = record { number = λ m n e. cc; apart = λ z n e. zero-one cc }
+
+pub writing-tells : Tells (λ (u : Unit {0}). W.Written) W.Refused
+writing-tells = record { number = λ m n e. cc; apart = λ u n e. zero-one cc }
+
+-- ---- a field that is written, and its digits
+
+digits-below : (size sign : ℕ) → sign < 16 → Below 16 (lastDigits 15 size ++ (sign ∷ []))
+digits-below size sign small =
+    each-append (λ (d : ℕ). d < 16) (lastDigits 15 size) (sign ∷ [])
+    (each-into (λ (d : ℕ). d < 10) (λ (d : ℕ). d < 16) (λ d h. omega arith) (lastDigits 15 size) (last-below 15 size)) (small, tt)
+
+module _ (size sign : ℕ) (small : sign < 16) where
+  unpacked-field : unpacked (fieldOf size sign) ≡ lastDigits 15 size ++ (sign ∷ [])
+  unfolding fieldOf
+  unpacked-field = unpacked-packed 8 (lastDigits 15 size ++ (sign ∷ [])) (length-append (lastDigits 15 size) (sign ∷ [])) (digits-below size sign small)
+
+  field-digits : fifteen (fieldOf size sign) ≡ lastDigits 15 size
+  field-digits = ap (take 15) unpacked-field ∙ take-at (lastDigits 15 size) (sign ∷ []) 15 (length-last 15 size)
+
+  field-sign : signDigit (fieldOf size sign) ≡ sign
+  field-sign = ap (λ (l : List ℕ). getD l 15 0) unpacked-field ∙ getD-at (lastDigits 15 size) sign [] 0 15 (length-last 15 size)
+
+  field-length : length (fieldOf size sign) ≡ 8
+  unfolding fieldOf
+  field-length = refl
+
+-- a field that is read is that of its digits and its sign
+read-field : (field : List ℕ) → length field ≡ 8 → Below 10 (fifteen field) → field ≡ fieldOf (tens (fifteen field)) (signDigit field)
+unfolding fieldOf
+read-field field eight b =
+    let ds = unpacked field in
+    let sixteen : length ds ≡ 16 = length-unpacked field ∙ rw eight refl in
+    let past : drop 16 ds ≡ [] = rw sixteen at (drop-length ds) in
+    let last : drop 15 ds ≡ signDigit field ∷ [] = drop-cons ds 15 0 (omega arith) ∙ ap (λ (l : List ℕ). signDigit field ∷ l) past in
+    sym (packed-unpacked field)
+    ∙ ap packed (sym (take-append-drop 15 ds) ∙ ap (λ (l : List ℕ). fifteen field ++ l) last)
+    ∙ ap (λ (l : List ℕ). packed (l ++ (signDigit field ∷ []))) (sym (last-tens 15 (fifteen field) (all field (omega arith)) b))
+
+-- ---- what was written reads back
+
+right-length : (field : List ℕ) → fieldWrong field ≡ false → length field ≡ 8
+right-length field e = by (eqb (length field) 8) refl e
+  where
+    by : (t : Bool) → eqb (length field) 8 ≡ t → not t ≡ false → length field ≡ 8
+    by true p q = eqb-true (length field) 8 p
+    by false p q = absurd (true-not-false refl q)
+
+was-written : (number : ℤ) (field : List ℕ) → writeOf number field ≡ W.Written → (length field ≡ 8) × (natAbs number < 10 ^ 15)
+unfolding writeOf
+was-written number field e =
+    let (none, same) = given-none writing-tells tt tt (λ q. refl) (writeChecks number field) tt e in
+    (right-length field (none .0), leb-false (10 ^ 15) (natAbs number) (none .1 .0))
+
+shown : (number : ℤ) → natAbs number < 10 ^ 15 → readOf (fieldFor number) ≡ R.Number number
+shown number h =
+    let n = natAbs number in
+    let m = belowZero number in
+    let p = preferred-is m in
+    let f = fieldOf n (preferred m) in
+    let d = field-digits n (preferred m) (p .2) in
+    let s = field-sign n (preferred m) (p .2) in
+    let fine : badPlace f ≡ 15 = ap (overNine 0) d ∙ over-none 0 (lastDigits 15 n) (last-below 15 n) ∙ length-last 15 n in
+    let z : numberIn f ≡ number = (λ i. signed (isMinus (signOf (s i))) (tens (d i))) ∙ (λ i. signed (p .0 i) (tens-last 15 n h i)) ∙ signed-size number in
+    sym (read-number f (field-length n (preferred m) (p .2)) (omega arith) (ap (λ (x : ℕ). isNone (signOf x)) s ∙ p .1)) ∙ ap R.Number z
+
+pub reads-back : ReadsBack
+reads-back number field e =
+    let (eight, small) = was-written number field e in
+    ap readOf (sym (written field eight number small .1)) ∙ shown number small
+
+-- ---- writing what was read
+
+-- what an answer says of its field
+record Read (field : List ℕ) (number : ℤ) : Type 0 where
+  eight : length field ≡ 8
+  fine : Below 10 (fifteen field)
+  is : numberIn field ≡ number
+
+was-read : (field : List ℕ) (number : ℤ) → readOf field ≡ R.Number number → Read field number
+unfolding readOf
+was-read field number e =
+    let (none, same) = given-none reading-tells (numberIn field) number (λ q. cc) (readChecks field) tt e in
+    let eight = right-length field (none .0) in
+    let fifteen-long = all field (omega arith) in
+    let past = ltb-false (badPlace field) 15 (none .1 .0) in
+    record { eight = eight; fine = none-over 0 (fifteen field) (omega arith); is = same }
+
+read-size : (field : List ℕ) (number : ℤ) → Read field number → natAbs number ≡ tens (fifteen field)
+read-size field number r = ap natAbs (sym (r .is)) ∙ size-signed (isMinus (signOf (signDigit field))) (tens (fifteen field))
+
+-- it has at most fifteen digits
+read-small : (field : List ℕ) (number : ℤ) → Read field number → natAbs number < 10 ^ 15
+read-small field number r =
+    let eight = r .eight in rw (read-size field number r) (tens-lt 15 (fifteen field) (all field (omega arith)) (r .fine))
+
+-- its sign is written again exactly for C and D, minus zero excepted
+sign-kept : (field : List ℕ) (number : ℤ) → Read field number → Kept field number → preferred (belowZero number) ≡ signDigit field
+sign-kept field number r k = by k
+  where
+    size : ℕ
+    size = tens (fifteen field)
+
+    below : (n : ℕ) → number ≡ signed true n → (number ≡ pos 0 → ⊥) → belowZero number ≡ true
+    below zero e some = absurd (some e)
+    below (suc n) e some = ap belowZero e
+
+    by : Kept field number → preferred (belowZero number) ≡ signDigit field
+    by (inl c) = ap (λ (z : ℤ). preferred (belowZero z)) (sym (r .is) ∙ (λ i. signed (isMinus (signOf (c i))) size)) ∙ sym c
+    by (inr (d, some)) = ap preferred (below size (sym (r .is) ∙ (λ i. signed (isMinus (signOf (d i))) size)) some) ∙ sym d
+
+kept-sign : (field : List ℕ) (number : ℤ) → preferred (belowZero number) ≡ signDigit field → Kept field number
+kept-sign field (pos n) e = inl (sym e)
+kept-sign field (negsuc n) e = inr (sym e, λ q. zero-one cc)
+
+pub writes-back : WritesBack
+writes-back field number e =
+    let r = was-read field number e in
+    let small = read-small field number r in
+    let w = written field (r .eight) number small in
+    let own : field ≡ fieldOf (natAbs number) (signDigit field) = read-field field (r .eight) (r .fine) ∙ ap (λ (n : ℕ). fieldOf n (signDigit field)) (sym (read-size field number r)) in
+    let sign = preferred (belowZero number) in
+    let put : signDigit (fieldFor number) ≡ sign = field-sign (natAbs number) sign (preferred-is (belowZero number) .2) in
+    let only : fieldAfter number field ≡ field → Kept field number = λ same. kept-sign field number (sym put ∙ ap signDigit (w .1 ∙ same)) in
+    let always : Kept field number → fieldAfter number field ≡ field = λ k. sym (w .1) ∙ ap (fieldOf (natAbs number)) (sign-kept field number r k) ∙ sym own in
+    (sym (w .0), (only, always))
+
+field-bytes : (size sign : ℕ) → sign < 16 → Below 256 (fieldOf size sign)
+unfolding fieldOf
+field-bytes size sign small = packed-below (lastDigits 15 size ++ (sign ∷ [])) (digits-below size sign small)
+
+pub reached : Reached
+reached number =
+    let bytes = field-bytes (natAbs number) (preferred (belowZero number)) (preferred-is (belowZero number) .2) in
+    let from : natAbs number < 10 ^ 15 → Shows number = λ h. record { field = fieldFor number; bytes = bytes; reads = shown number h } in
+    (λ s. read-small (s .field) number (was-read (s .field) number (s .reads)), from)
