@@ -79,6 +79,15 @@ uint64_t panel_add_decimal(uint8_t *main, size_t main_len, uint8_t *local, size_
 uint32_t panel_read_deck(const uint8_t *deck, size_t deck_len, uint64_t *words, size_t room);
 uint32_t panel_write_deck(const uint64_t *words, size_t count, uint8_t *deck, size_t room);
 
+/* The number of a signed field: 8 bytes, fifteen digits and a sign digit, A, C, E, F plus, B, D minus. 0, with the
+ * number written to number[0]; or the refusal's number: 33 where other than 8 bytes are lent, 25 for a digit over 9 in
+ * the first fifteen places, 26 for a sign digit below A, then 19 where no number is lent. */
+uint32_t panel_read_signed(const uint8_t *field, size_t field_len, int64_t *number, size_t room);
+
+/* The signed field of a number, its sign C or D. 0, with the field written; or the refusal's number: 33 where other than
+ * 8 bytes are lent, 27 for a number of more than fifteen digits. */
+uint32_t panel_write_signed(int64_t number, uint8_t *field, size_t field_len);
+
 #ifdef __cplusplus
 }
 #endif

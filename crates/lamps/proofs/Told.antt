@@ -12,13 +12,13 @@ use Rattle.digits.specs.Lent.{over, overAt}
 use Rattle.digits.specs.Lists.{joined}
 use Rattle.digits.proofs.Lists.{pieces-at, map-at}
 use Rattle.text.specs.Ascii.{ascii}
-use Rattle.text.specs.Text.{threeDigits, zerosInFront, decimal, hexadecimal, putOf, roomAfter}
+use Rattle.text.specs.Text.{threeDigits, zerosInFront, decimal, fieldDigits, putOf, roomAfter}
 use Rattle.text.specs.Words.{wordsOf}
 use Rattle.text.specs.declared.Written.{Written}
 use Rattle.text.specs.declared.Written.the-variants as W
 use Rattle.text.proofs.Rows.{words-short}
-use Rattle.text.proofs.Texts.{fits}
-use Rattle.lamps.specs.Ending.{fieldNames, fieldOf, refusedOf, placeOf, fieldDigits, carryOf, sumOf}
+use Rattle.text.proofs.Texts.{fits, length-digits}
+use Rattle.lamps.specs.Ending.{fieldNames, fieldOf, refusedOf, placeOf, carryOf, sumOf}
 
 -- ---- a number in decimal
 
@@ -84,10 +84,6 @@ refused-short number field at =
     omega (arith, decimal-short number, field-short field, words-short number, length-append (decimal number) (fieldOf field ++ (placeOf at ++ words)), length-append (fieldOf field) (placeOf at ++ words), length-append (wordsOf number) (10 ∷ []))
 
 -- ---- a sum
-
-pub length-digits : (field : List ℕ) → length (fieldDigits field) ≡ 2 * length field
-length-digits [] = refl
-length-digits (x ∷ field) = omega (arith, length-digits field, length-append (hexadecimal 2 x) (fieldDigits field))
 
 pub length-sum : (field : List ℕ) (carry : Bool) → length (sumOf field carry) ≡ 2 * length field + 12
 unfolding sumOf

@@ -1,13 +1,12 @@
 -- How a run ended, and what an addition came to. Assumes nothing.
 use Prim.Native.Nat.{ℕ, _+_}
 use Prim.Native.String.{String}
-use mathlib.Core.List.{List, [], _∷_, _++_, map}
+use mathlib.Core.List.{List, [], _∷_, _++_}
 use mathlib.Core.Bool.{Bool}
 use lib.ListN.{getD}
 use Rattle.digits.specs.Bits.{one}
-use Rattle.digits.specs.Lists.{joined}
 use Rattle.text.specs.Ascii.{ascii}
-use Rattle.text.specs.Text.{hexadecimal, decimal}
+use Rattle.text.specs.Text.{hexadecimal, fieldDigits, decimal}
 use Rattle.text.specs.Words.{wordsOf}
 use Rattle.run.specs.declared.Ending.{Ending}
 use Rattle.run.specs.declared.Ending.the-variants as E
@@ -37,10 +36,6 @@ unfoldable pub endingOf : Ending → ℕ → List ℕ
 endingOf E.Stopped at = standing (ascii "STOPPED AT ") at
 endingOf E.Spent at = standing (ascii "SPENT AT ") at
 endingOf (E.Refused number field) at = refusedOf number field at
-
--- the digits of a field
-abbrev pub fieldDigits : List ℕ → List ℕ
-fieldDigits field = joined (map (hexadecimal 2) field)
 
 abbrev pub carryOf : Bool → List ℕ
 carryOf carry = ascii " CARRY " ++ ((48 + one carry) ∷ 10 ∷ [])

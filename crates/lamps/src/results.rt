@@ -1,29 +1,14 @@
 // What an addition came to.
 ghost use mathlib.Core.Path.{_≡_};
-ghost use Prim.Native.Nat.{_*_, _≤_};
+ghost use Prim.Native.Nat.{_≤_};
 ghost use lib.ListN.{length};
 ghost use Rattle.digits.specs.Lent.{over};
 ghost use Rattle.text.specs.Text.{putOf, roomAfter};
-ghost use Rattle.lamps.specs.Ending.{fieldDigits, carryOf, sumOf, refusalOf, resultOf};
+ghost use Rattle.lamps.specs.Ending.{carryOf, sumOf, refusalOf, resultOf};
 use crate::columns::after;
-use crate::columns::put_cell;
 use crate::endings::put_number;
 use decimal::Added;
 use text::Written;
-
-// Puts the digits of a field.
-fn put_digits(field: &[u8], out: &mut [u8])
-    requires { ⌜ length (now out) ≡ 2 * length (now field) ⌝ }
-    ensures { λ _. ⌜ now (out .exit) ≡ fieldDigits (now (field .entry)) ⌝ }
-{
-    let mut i: usize = 0;
-    while i < field.len() {
-        let at = 2 * i;
-        let end = at + 2;
-        put_cell(0, 2, field[i], &mut out[at..end]);
-        i += 1;
-    }
-}
 
 fn carry_text(carry: bool) -> [u8; 9]
     ensures { λ r. ⌜ r ≡ carryOf carry ⌝ }
@@ -43,7 +28,7 @@ fn summed(field: &[u8], carry: bool, room: &mut [u8]) -> Written
     }
     let from = after(b" = ", room, 0);
     let end = from + 2 * field.len();
-    put_digits(field, &mut room[from..end]);
+    text::put_digits(field, &mut room[from..end]);
     Written::Text(after(&carry_text(carry), room, end))
 }
 

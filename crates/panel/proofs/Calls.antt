@@ -6,7 +6,10 @@ use mathlib.Core.Bool.{Bool, true, false, not, _||_}
 use native.Mathlib.Omega.{arith}
 use borrow.Author.Tests.{lt-ltb, le-ltb, ltb-true, ltb-false}
 use lib.Dec.{eqb, ltb}
+use lib.IntN.{ℤ}
 use lib.ListN.{length, set}
+use mir.Syntax.{w64}
+use mir.Val.{toZ, ofZ}
 use Rattle.digits.proofs.Truth.{neither}
 use Rattle.word.specs.Word.{takenApart, packed}
 use Rattle.word.specs.declared.Fields.{Fields}
@@ -21,9 +24,12 @@ use Rattle.run.specs.declared.Finished.{Finished}
 use Rattle.decimal.specs.Entry.{start, addOf}
 use Rattle.decimal.specs.declared.Added.{Added}
 use Rattle.digits.specs.Lent.{over}
+use Rattle.signed.specs.Signed.{readOf}
+use Rattle.signed.specs.declared.ReadOut.the-variants as R
+use Rattle.signed.proofs.Trips.{read-whole}
 use Rattle.channels.specs.Channels.{saved, loaded}
 use Rattle.panel.specs.Fields.{fieldsIn}
-use Rattle.panel.specs.Answers.{REFUSED, coded, counted, answered, answerApart, takeApartCall, answerPacked, packCall, Called, called, short, cycled, cycledBy, cycleCall, endingCode, recordAfter, ranBy, runCall, answerNext, nextSumCall, startCall, addedCode, addedBy, addDecimalCall}
+use Rattle.panel.specs.Answers.{REFUSED, coded, counted, answered, answerApart, takeApartCall, answerPacked, packCall, Called, called, short, cycled, cycledBy, cycleCall, endingCode, recordAfter, ranBy, runCall, answerNext, nextSumCall, startCall, addedCode, addedBy, addDecimalCall, readSignedCall}
 
 -- ---- a word
 
@@ -51,8 +57,8 @@ module _ (fields : List ℕ) (address : ℕ) (word : List ℕ) where
 pub both-lent : (m n k l : ℕ) → ltb m k || ltb n l ≡ false → (k ≤ m) × (l ≤ n)
 both-lent m n k l h = let (a, b) = neither (ltb m k) (ltb n l) h in (ltb-false m k a, ltb-false n l b)
 
--- a word at the front
-pub front : (l : List ℕ) (w : ℕ) → 1 ≤ length l → set l 0 w ≡ over (w ∷ []) l
+-- an element at the front
+pub front : {A : Type 0} (l : List A) (w : A) → 1 ≤ length l → set l 0 w ≡ over (w ∷ []) l
 front [] w h = absurd (omega arith)
 front (x ∷ l) w h = refl
 
@@ -126,3 +132,19 @@ pub added : (main local m l : List ℕ) (first second n carry : ℕ) (on : Bool)
     → outcome r m l ≡ addDecimalCall main local first second n carry
 unfolding addDecimalCall
 added main local m l first second n carry on a r h o q = (λ i. outcome (q i) m l) ∙ ap addedBy (o ∙ ap (addOf main local first second n) h)
+
+-- ---- a signed field
+
+module _ (field : List ℕ) (number : List ℤ) where
+  -- past the answer's own refusal, 19 where no number is lent
+  pub signed-short : (z : ℤ) → R.Number z ≡ readOf field → length number < 1 → answered 19 number ≡ readSignedCall field number
+  unfolding readSignedCall
+  signed-short z e h = rw (← e, lt-ltb (length number) 1 h)
+
+  pub signed-is : (z : ℤ) → R.Number z ≡ readOf field → 1 ≤ length number → answered 0 (set number 0 (toZ w64 (ofZ w64 z))) ≡ readSignedCall field number
+  unfolding readSignedCall
+  signed-is z e h = rw (← e, le-ltb (length number) 1 h, read-whole field z (sym e)) (ap (answered 0) (front number z h))
+
+  pub signed-refused : (n : ℕ) → R.Refused n ≡ readOf field → answered n number ≡ readSignedCall field number
+  unfolding readSignedCall
+  signed-refused n e = rw (← e)

@@ -33,6 +33,8 @@ use Rattle.panel.proofs.panel_write_deck.Reads as write-deck
 use Rattle.panel.proofs.panel_next_sum.Reads as next-sum
 use Rattle.panel.proofs.panel_start.Reads as start
 use Rattle.panel.proofs.panel_shipped.Reads as shipped
+use Rattle.panel.proofs.panel_read_signed.Reads as read-signed
+use Rattle.panel.proofs.panel_write_signed.Reads as write-signed
 
 -- ---- "on a refusal changes no lent byte", nor does a stop
 
@@ -132,3 +134,9 @@ start-sole κs args r q x y a b = sole a b
 
 pub shipped-sole : (κs : _) (args : _) (r q : ℕ) (x y : _) → shipped.Post κs args r x → shipped.Post κs args q y → answered r (now (x .0)) ≡ answered q (now (y .0))
 shipped-sole κs args r q x y a b = sole a b
+
+pub read-signed-sole : (κs : _) (args : _) (r q : ℕ) (x y : _) → read-signed.Post κs args r x → read-signed.Post κs args q y → answered r (now (x .1 .0)) ≡ answered q (now (y .1 .0))
+read-signed-sole κs args r q x y a b = sole a b
+
+pub write-signed-sole : (κs : _) (args : _) (r q : ℕ) (x y : _) → write-signed.Post κs args r x → write-signed.Post κs args q y → answered r (now (x .1 .0)) ≡ answered q (now (y .1 .0))
+write-signed-sole κs args r q x y a b = sole a b

@@ -3,6 +3,7 @@ use Prim.Native.Nat.{ℕ, _+_, _*_, _^_}
 use mathlib.Core.List.{List, [], _∷_}
 use mathlib.Core.Bool.{cond, not, _||_}
 use lib.Dec.{eqb, ltb}
+use lib.IntN.{ℤ}
 use lib.ListN.{length}
 use Rattle.digits.specs.Bits.{one}
 use Rattle.word.specs.Word.{takenApart, packed}
@@ -30,6 +31,11 @@ use Rattle.deck.specs.declared.Reading.{Reading}
 use Rattle.deck.specs.declared.Reading.the-variants as R
 use Rattle.deck.specs.declared.Writing.{Writing}
 use Rattle.deck.specs.declared.Writing.the-variants as W
+use Rattle.signed.specs.Signed.{readOf as readSigned, writeOf as writeSigned, fieldAfter}
+use Rattle.signed.specs.declared.ReadOut.{ReadOut}
+use Rattle.signed.specs.declared.ReadOut.the-variants as S
+use Rattle.signed.specs.declared.Wrote.{Wrote}
+use Rattle.signed.specs.declared.Wrote.the-variants as T
 use Rattle.channels.specs.Lamps.{width, kindsOf}
 use Rattle.channels.specs.Channels.{recordLength, workChannels, saved, loaded, worked}
 use Rattle.panel.specs.Fields.{fieldBytes, fieldsIn}
@@ -64,29 +70,29 @@ counted code count = code + 2 ^ 32 * count
 -- ---- a word
 
 -- a number, and what was lent to be written as it then is
-pub record Answered : Type 0 where
+pub record Answered (A : Type 0) : Type 0 where
   pub number : ℕ
-  pub lent : List ℕ
+  pub lent : List A
 
-abbrev pub answered : ℕ → List ℕ → Answered
+abbrev pub answered : {A : Type 0} → ℕ → List A → Answered A
 answered number lent = record { number = number; lent = lent }
 
 -- "0, with the 18 fields other than PN, PA, PS and PC written in word order, one to a byte; or the refusal's number."
-abbrev pub answerApart : Apart → List ℕ → Answered
+abbrev pub answerApart : Apart → List ℕ → Answered ℕ
 answerApart (A.Fields f) fields = answered 0 (over (fieldBytes f) fields)
 answerApart (A.Refused number) fields = answered number fields
 
 -- "19 where fewer than 18 bytes are lent, checked first."
-unfoldable pub takeApartCall : ℕ → ℕ → List ℕ → Answered
+unfoldable pub takeApartCall : ℕ → ℕ → List ℕ → Answered ℕ
 takeApartCall word address fields = cond (ltb (length fields) 18) (answered 19 fields) (answerApart (takenApart word address) fields)
 
 -- "0, with the word written to word[0]; or the refusal's number."
-abbrev pub answerPacked : Packed → List ℕ → Answered
+abbrev pub answerPacked : Packed → List ℕ → Answered ℕ
 answerPacked (P.Word w) word = answered 0 (over (w ∷ []) word)
 answerPacked (P.Refused number) word = answered number word
 
 -- "19 where fewer than 18 fields or no word are lent, checked first; further bytes are not read."
-unfoldable pub packCall : List ℕ → ℕ → List ℕ → Answered
+unfoldable pub packCall : List ℕ → ℕ → List ℕ → Answered ℕ
 packCall fields address word =
     cond (ltb (length fields) 18 || ltb (length word) 1) (answered 19 word) (answerPacked (packed (fieldsIn fields) address) word)
 
@@ -140,7 +146,7 @@ runCall store main local state budget =
 -- ---- the work of the word that would run next
 
 -- "0, with PANEL_WORK bytes written; 1 where no sum would be made"
-abbrev pub answerNext : NextSum → List ℕ → Answered
+abbrev pub answerNext : NextSum → List ℕ → Answered ℕ
 answerNext (N.Sums w) work = answered 0 (over (worked w) work)
 answerNext N.Nothing work = answered 1 work
 
@@ -149,19 +155,19 @@ abbrev pub workLength : ℕ
 workLength = width (kindsOf workChannels)
 
 -- "19 where fewer than PANEL_STATE bytes of state or PANEL_WORK bytes of work are lent, checked first."
-unfoldable pub nextSumCall : List ℕ → List ℕ → List ℕ → Answered
+unfoldable pub nextSumCall : List ℕ → List ℕ → List ℕ → Answered ℕ
 nextSumCall store state work =
     cond (ltb (length state) recordLength || ltb (length work) workLength) (answered 19 work) (answerNext (nextSumOf store (loaded state)) work)
 
 -- ---- the shipped words, and the state from which the decimal entry runs them
 
 -- "0, or 19 where fewer than PANEL_STATE bytes are lent"; "carry_in: off at 0, on otherwise"
-unfoldable pub startCall : ℕ → ℕ → ℕ → ℕ → List ℕ → Answered
+unfoldable pub startCall : ℕ → ℕ → ℕ → ℕ → List ℕ → Answered ℕ
 startCall first second n carry state =
     cond (ltb (length state) recordLength) (answered 19 state) (answered 0 (over (saved (start first second n (not (eqb carry 0)))) state))
 
 -- "the number of words, or 65536 * 19"
-unfoldable pub shippedCall : List ℕ → Answered
+unfoldable pub shippedCall : List ℕ → Answered ℕ
 shippedCall words = cond (ltb (length words) (length shipped)) (answered (65536 * 19) words) (answered (length shipped) (over shipped words))
 
 -- ---- decimal add
@@ -190,8 +196,26 @@ abbrev pub writeNumber : Writing → ℕ
 writeNumber (W.Bytes count) = count
 writeNumber (W.Refused number) = 65536 * number
 
-unfoldable pub readDeckCall : List ℕ → List ℕ → Answered
+unfoldable pub readDeckCall : List ℕ → List ℕ → Answered ℕ
 readDeckCall deck words = answered (readNumber (readOf deck (length words))) (wordsAfter deck words)
 
-unfoldable pub writeDeckCall : List ℕ → List ℕ → Answered
+unfoldable pub writeDeckCall : List ℕ → List ℕ → Answered ℕ
 writeDeckCall words deck = answered (writeNumber (writeOf words (length deck))) (deckAfter words deck)
+
+-- ---- a signed field
+
+-- "0, with the number written to number[0]; or the refusal's number"; "then 19 where no number is lent"
+abbrev pub answerSigned : ReadOut → List ℤ → Answered ℤ
+answerSigned (S.Number z) number = cond (ltb (length number) 1) (answered 19 number) (answered 0 (over (z ∷ []) number))
+answerSigned (S.Refused n) number = answered n number
+
+unfoldable pub readSignedCall : List ℕ → List ℤ → Answered ℤ
+readSignedCall field number = answerSigned (readSigned field) number
+
+-- "0, with the field written; or the refusal's number"
+abbrev pub wroteNumber : Wrote → ℕ
+wroteNumber T.Written = 0
+wroteNumber (T.Refused n) = n
+
+unfoldable pub writeSignedCall : ℤ → List ℕ → Answered ℕ
+writeSignedCall number field = answered (wroteNumber (writeSigned number field)) (fieldAfter number field)

@@ -5,7 +5,7 @@ ghost use mathlib.Core.Path.{_≡_};
 ghost use Prim.Native.Nat.{_≤_};
 ghost use lib.ListN.{length};
 ghost use Rattle.machine.specs.Cycle.{outcome};
-ghost use Rattle.panel.specs.Answers.{coded, counted, answered, takeApartCall, packCall, called, cycleCall, endingCode, recordAfter, runCall, nextSumCall, startCall, shippedCall, addedCode, addDecimalCall, readDeckCall, writeDeckCall};
+ghost use Rattle.panel.specs.Answers.{coded, counted, answered, takeApartCall, packCall, called, cycleCall, endingCode, recordAfter, runCall, nextSumCall, startCall, shippedCall, addedCode, addDecimalCall, readDeckCall, writeDeckCall, readSignedCall, writeSignedCall};
 ghost use Rattle.digits.specs.Lent.{over};
 ghost use Rattle.channels.specs.Channels.{saved, worked};
 use adder::Work;
@@ -16,6 +16,8 @@ use machine::Cycled;
 use machine::NextSum;
 use machine::State;
 use run::Ending;
+use signed::ReadOut;
+use signed::Wrote;
 use word::Apart;
 use word::Packed;
 
@@ -264,5 +266,33 @@ pub extern "C" fn panel_write_deck(words: &[u64], deck: &mut [u8]) -> u32
     match deck::write(words, deck) {
         Writing::Bytes(count) => count as u32,
         Writing::Refused(number) => 65536 * number as u32,
+    }
+}
+
+// The number of a signed field: 0 and the number, or the refusal's number.
+#[no_mangle]
+pub extern "C" fn panel_read_signed(field: &[u8], number: &mut [i64]) -> u32
+    ensures { λ r. ⌜ answered r (now (number .exit)) ≡ readSignedCall (now (field .entry)) (now (number .entry)) ⌝ }
+{
+    match signed::read_signed(field) {
+        ReadOut::Number(z) => {
+            if number.len() < 1 {
+                return 19;
+            }
+            number[0] = z;
+            0
+        }
+        ReadOut::Refused(refusal) => refusal as u32,
+    }
+}
+
+// The signed field of a number: 0, or the refusal's number.
+#[no_mangle]
+pub extern "C" fn panel_write_signed(number: i64, field: &mut [u8]) -> u32
+    ensures { λ r. ⌜ answered r (now (field .exit)) ≡ writeSignedCall number (now (field .entry)) ⌝ }
+{
+    match signed::write_signed(number, field) {
+        Wrote::Written => 0,
+        Wrote::Refused(refusal) => refusal as u32,
     }
 }

@@ -16,6 +16,7 @@ use Rattle.signed.specs.declared.Wrote.the-variants as W
 use Rattle.signed.proofs.Trips.{reading-tells, writing-tells}
 use Rattle.signed.proofs.bad_place.Reads as bad-place
 use Rattle.signed.proofs.read_signed.Reads as read-signed
+use Rattle.signed.proofs.with_sign.Reads as with-sign
 use Rattle.signed.proofs.size.Reads as size
 use Rattle.signed.proofs.write_signed.Reads as write-signed
 
@@ -46,6 +47,9 @@ bad-place-sole κs args r s x y p q = sole p q
 
 pub read-signed-sole : (κs : _) (args : _) (r s : ReadOut) (x y : _) → read-signed.Post κs args r x → read-signed.Post κs args s y → r ≡ s
 read-signed-sole κs args r s x y p q = sole p q
+
+pub with-sign-sole : (κs : _) (args : _) (r s : ℤ) (x y : _) → with-sign.Post κs args r x → with-sign.Post κs args s y → r ≡ s
+with-sign-sole κs args r s x y p q = sole p q
 
 pub size-sole : (κs : _) (args : _) (r s : ℕ) (x y : _) → size.Post κs args r x → size.Post κs args s y → r ≡ s
 size-sole κs args r s x y p q = sole p q

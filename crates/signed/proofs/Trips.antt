@@ -11,6 +11,8 @@ use lib.Dec.{eqb, ltb}
 use lib.IntN.{ℤ, pos, negsuc, natAbs}
 use lib.ListN.{length, getD, take, drop, length-append, take-append-drop}
 use lib.Seq.{take-at, getD-at, drop-cons, drop-length}
+use mir.Syntax.{w64}
+use mir.Val.{toZ, ofZ}
 use Rattle.digits.specs.Packed.{unpacked, packed, signOf, isMinus, isNone, preferred, signed, belowZero}
 use Rattle.digits.specs.Tens.{lastDigits, tens}
 use Rattle.digits.proofs.Refusals.{Tells, given-none}
@@ -22,6 +24,7 @@ use Rattle.signed.specs.Signed.{fifteen, signDigit, fieldWrong, overNine
 use Rattle.signed.specs.Trips.{ReadsBack, Kept, WritesBack, Shows, Reached}
 use Rattle.signed.specs.declared.ReadOut.the-variants as R
 use Rattle.signed.specs.declared.Wrote.the-variants as W
+use Rattle.signed.proofs.Whole.{reads, within}
 use Rattle.signed.proofs.Fields.{all}
 use Rattle.signed.proofs.Answers.{read-number, written}
 
@@ -171,6 +174,10 @@ writes-back field number e =
     let only : fieldAfter number field ≡ field → Kept field number = λ same. kept-sign field number (sym put ∙ ap signDigit (w .1 ∙ same)) in
     let always : Kept field number → fieldAfter number field ≡ field = λ k. sym (w .1) ∙ ap (fieldOf (natAbs number)) (sign-kept field number r k) ∙ sym own in
     (sym (w .0), (only, always))
+
+-- the machine reads the number that it was given
+pub read-whole : (field : List ℕ) (number : ℤ) → readOf field ≡ R.Number number → toZ w64 (ofZ w64 number) ≡ number
+read-whole field number e = let h = read-small field number (was-read field number e) in reads number (within number (omega arith))
 
 field-bytes : (size sign : ℕ) → sign < 16 → Below 256 (fieldOf size sign)
 unfolding fieldOf

@@ -1,7 +1,8 @@
 -- Whole numbers of 64 bits: their sizes and their negations, exact around zero and at the limits. Assumes nothing.
-use Prim.Native.Nat.{ℕ, zero, suc, _-_, _≤_, _<_, _^_}
+use Prim.Native.Nat.{ℕ, zero, suc, _-_, _≤_, _<_, _^_, min}
 use mathlib.Core.Path.{_≡_, refl, ap, _∙_}
 use mathlib.Core.Bool.{Bool, true, false}
+use native.Mathlib.Nat.{min-eq-left}
 use native.Mathlib.Omega.{arith}
 use lib.Dec.{T}
 use lib.IntN.{ℤ, pos, negsuc, negℤ, sucℤ, natAbs, _+ℤ_, _-ℤ_, +ℤ-idl, +ℤ-one}
@@ -13,6 +14,7 @@ use mir.ValLaws.{toZ-ofZ}
 use Rattle.digits.specs.Packed.{signed, belowZero}
 use Rattle.digits.proofs.Truth.{true-not-false}
 use Rattle.digits.proofs.Packed.{size-signed}
+use Rattle.signed.specs.Signed.{greatest}
 
 -- what the machine reads of a number that fits is the number
 pub reads : (z : ℤ) → SFits w64 z → toZ w64 (ofZ w64 z) ≡ z
@@ -29,22 +31,25 @@ below-zero (negsuc n) = refl
 
 -- ---- from a size
 
-small-fits : (z : ℤ) → natAbs z < 2000000000000000 → SFits w64 z
-small-fits (pos n) h = record { sfits = omega arith }
-small-fits (negsuc n) h = record { sfits = omega arith }
+pub within : (z : ℤ) → natAbs z ≤ greatest → SFits w64 z
+within (pos n) h = record { sfits = omega arith }
+within (negsuc n) h = record { sfits = omega arith }
 
-module _ (n : ℕ) (h : n < 2000000000000000) where
+module _ (n : ℕ) (h : n ≤ greatest) where
   pub reads-size : toZ w64 (ofZ w64 (pos n)) ≡ pos n
-  reads-size = reads (pos n) (small-fits (pos n) h)
+  reads-size = reads (pos n) (within (pos n) h)
 
   pub minus-fits : SFits w64 (pos 0 -ℤ pos n)
-  minus-fits = rw minus-is (small-fits (negℤ (pos n)) (rw (size-signed true n) h))
+  minus-fits = rw minus-is (within (negℤ (pos n)) (rw (size-signed true n) h))
 
   pub minus-reads : toZ w64 (ofZ w64 (pos 0 -ℤ pos n)) ≡ negℤ (pos n)
   minus-reads = reads (pos 0 -ℤ pos n) minus-fits ∙ minus-is (pos n)
 
-  pub signed-reads : (minus : Bool) → toZ w64 (ofZ w64 (signed minus n)) ≡ signed minus n
-  signed-reads minus = reads (signed minus n) (small-fits (signed minus n) (rw (size-signed minus n) h))
+  -- and what is made of it is read as it was made
+  pub signed-reads : (minus : Bool) → toZ w64 (ofZ w64 (signed minus (min n greatest))) ≡ signed minus n
+  signed-reads minus =
+      let e : min n greatest ≡ n = min-eq-left h in
+      rw e (reads (signed minus n) (within (signed minus n) (rw (size-signed minus n) h)))
 
 -- ---- to a size
 

@@ -13,6 +13,10 @@ use Rattle.signed.specs.declared.ReadOut.the-variants as R
 use Rattle.signed.specs.declared.Wrote.{Wrote}
 use Rattle.signed.specs.declared.Wrote.the-variants as W
 
+-- the greatest "signed 64-bit number"
+abbrev pub greatest : ℕ
+greatest = 9223372036854775807
+
 -- "fifteen digits"
 abbrev pub fifteen : List ℕ → List ℕ
 fifteen field = take 15 (unpacked field)

@@ -1,11 +1,11 @@
 // Signed read-out: a packed field of 8 bytes, fifteen digits and a sign, as a number, and back.
 ghost use mathlib.Core.Path.{_≡_};
-ghost use Prim.Native.Nat.{_<_, _≤_};
+ghost use Prim.Native.Nat.{_<_, _≤_, min};
 ghost use lib.IntN.{natAbs};
 ghost use lib.ListN.{length, getD};
 ghost use Rattle.digits.specs.Tens.{tens};
 ghost use Rattle.digits.specs.Packed.{unpacked, preferred, signed};
-ghost use Rattle.signed.specs.Signed.{fifteen, badPlace, readOf, fieldOf, writeOf, fieldAfter};
+ghost use Rattle.signed.specs.Signed.{greatest, fifteen, badPlace, readOf, fieldOf, writeOf, fieldAfter};
 use digits::byte_at;
 
 // The number of a field, or how it is refused.
@@ -64,12 +64,17 @@ fn size_in(field: &[u8]) -> u64
     size
 }
 
-// The number of a size, below zero or not.
-fn with_sign(minus: bool, size: u64) -> i64
-    requires { ⌜ size < 2000000000000000 ⌝ }
-    ensures { λ r. ⌜ r ≡ signed minus size ⌝ }
+fn smaller(a: u64, b: u64) -> u64
+    ensures { λ r. ⌜ r ≡ min a b ⌝ }
 {
-    let number = size as i64;
+    if a < b { a } else { b }
+}
+
+// The number of a size, below zero or not; a size over the greatest number's counts as that.
+pub fn with_sign(minus: bool, size: u64) -> i64
+    ensures { λ r. ⌜ r ≡ signed minus (min size greatest) ⌝ }
+{
+    let number = smaller(size, 9223372036854775807) as i64;
     if minus { -number } else { number }
 }
 

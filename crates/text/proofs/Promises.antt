@@ -21,6 +21,7 @@ use Rattle.text.proofs.three_digits.Reads as three-digits
 use Rattle.text.proofs.zeros_in_front.Reads as zeros-in-front
 use Rattle.text.proofs.put_decimal.Reads as put-decimal
 use Rattle.text.proofs.put.Reads as put
+use Rattle.text.proofs.put_digits.Reads as put-digits
 use Rattle.text.proofs.put_both.Reads as put-both
 use Rattle.text.proofs.refusals.words.Reads as words
 
@@ -65,6 +66,9 @@ put-decimal-sole κs args r s x y p q = sole p q
 
 pub put-sole : (κs : _) (args : _) (r s : Written) (x y : _) → put.Post κs args r x → put.Post κs args s y → (r ≡ s) × (now (x .1 .0) ≡ now (y .1 .0))
 put-sole κs args r s x y p q = (sole (p .0) (q .0), sole (p .1) (q .1))
+
+pub put-digits-sole : (κs : _) (args : _) (r s : Written) (x y : _) → put-digits.Post κs args r x → put-digits.Post κs args s y → (r ≡ s) × (now (x .1 .0) ≡ now (y .1 .0))
+put-digits-sole κs args r s x y p q = (sole (p .0) (q .0), sole (p .1) (q .1))
 
 pub put-both-sole : (κs : _) (args : _) (r s : Written) (x y : _) → put-both.Post κs args r x → put-both.Post κs args s y → (r ≡ s) × (now (x .1 .1 .0) ≡ now (y .1 .1 .0))
 put-both-sole κs args r s x y p q = (sole (p .0) (q .0), sole (p .1) (q .1))

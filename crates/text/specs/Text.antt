@@ -5,6 +5,7 @@ use mathlib.Core.Bool.{Bool, true, false, cond, not, _&&_}
 use lib.Dec.{eqb, ltb}
 use lib.ListN.{length, drop, replicate}
 use Rattle.digits.specs.Lent.{over}
+use Rattle.digits.specs.Lists.{joined}
 use Rattle.digits.specs.Number.{digitsOf}
 use Rattle.digits.specs.Refusal.{Check, first, answer}
 use Rattle.digits.specs.Sizes.{roomWrong}
@@ -17,6 +18,10 @@ capital d = cond (ltb d 10) (48 + d) (55 + d)
 
 abbrev pub hexadecimal : ℕ → ℕ → List ℕ
 hexadecimal k number = map capital (digitsOf 4 k number)
+
+-- the digits of some bytes, two to a byte
+abbrev pub fieldDigits : List ℕ → List ℕ
+fieldDigits field = joined (map (hexadecimal 2) field)
 
 -- "the number in decimal": the three digits of a byte, without the zeros in front
 abbrev pub threeDigits : ℕ → List ℕ

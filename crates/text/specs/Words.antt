@@ -5,7 +5,7 @@ use mathlib.Core.List.{List, [], _∷_}
 use lib.ListN.{getD}
 use Rattle.text.specs.Ascii.{ascii}
 
--- by number; docs/NUMBERS.md has the same
+-- by number, a number that nothing gives yet with the words of 0; docs/NUMBERS.md has the same
 abbrev pub refusalWords : List String
 refusalWords =
     "no such refusal" ∷  -- 0
@@ -31,6 +31,17 @@ refusalWords =
     "a field or the address is beyond its width" ∷  -- 20
     "there are no words, or over 4096" ∷  -- 21
     "the budget is over 1000000" ∷  -- 22
+    "no such refusal" ∷  -- 23
+    "no such refusal" ∷  -- 24
+    "a digit is over 9 in the first fifteen places" ∷  -- 25
+    "the sign digit is below A" ∷  -- 26
+    "the number has more than fifteen digits" ∷  -- 27
+    "no such refusal" ∷  -- 28
+    "no such refusal" ∷  -- 29
+    "no such refusal" ∷  -- 30
+    "no such refusal" ∷  -- 31
+    "no such refusal" ∷  -- 32
+    "the signed field is not of 8 bytes" ∷  -- 33
     []
 
 unfoldable pub wordsOf : ℕ → List ℕ

@@ -6,7 +6,7 @@ ghost use mathlib.Core.Path.{_≡_};
 ghost use mathlib.Core.List.{_++_};
 ghost use Prim.Native.Nat.{_<_, _≤_};
 ghost use lib.ListN.{length, replicate};
-ghost use Rattle.text.specs.Text.{capital, hexadecimal, threeDigits, zerosInFront, place, inColumns, putOf, roomAfter};
+ghost use Rattle.text.specs.Text.{capital, hexadecimal, fieldDigits, threeDigits, zerosInFront, place, inColumns, putOf, roomAfter};
 
 // The number of bytes that a text takes, or how it is refused.
 pub enum Written {
@@ -100,6 +100,24 @@ pub fn put(text: &[u8], room: &mut [u8]) -> Written
     }
     digits::copy(text, room);
     Written::Text(text.len())
+}
+
+// Puts the digits of some bytes, or gives 19.
+pub fn put_digits(field: &[u8], room: &mut [u8]) -> Written
+    ensures { λ r. ⌜ (r ≡ putOf (fieldDigits (now (field .entry))) (length (now (room .entry)))) × (now (room .exit) ≡ roomAfter (fieldDigits (now (field .entry))) (now (room .entry))) ⌝ }
+{
+    // half, as twice a length may pass 64 bits
+    if room.len() / 2 < field.len() {
+        return Written::Refused(19);
+    }
+    let mut i: usize = 0;
+    while i < field.len() {
+        let at = 2 * i;
+        let end = at + 2;
+        put_hexadecimal(digits::byte_at(field, i) as u64, &mut room[at..end]);
+        i += 1;
+    }
+    Written::Text(2 * field.len())
 }
 
 // Puts two texts one after the other, or gives 19.

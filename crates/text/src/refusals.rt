@@ -7,7 +7,7 @@ ghost use Rattle.text.specs.Words.{wordsOf};
 use crate::Written;
 
 // How long the words of each refusal are.
-const LENGTHS: [u8; 23] = [
+const LENGTHS: [u8; 34] = [
     15,
     63,
     27,
@@ -31,13 +31,24 @@ const LENGTHS: [u8; 23] = [
     42,
     32,
     26,
+    15,
+    15,
+    45,
+    25,
+    39,
+    15,
+    15,
+    15,
+    15,
+    15,
+    34,
 ];
 
 // The row of a refusal in the table.
 fn row_of(number: u8) -> usize
-    ensures { λ r. ⌜ (r < 23) × (wordsOf r ≡ wordsOf number) ⌝ }
+    ensures { λ r. ⌜ (r < 34) × (wordsOf r ≡ wordsOf number) ⌝ }
 {
-    if number < 23 { number as usize } else { 0 }
+    if number < 34 { number as usize } else { 0 }
 }
 
 // The words of a refusal, or 19.
@@ -68,6 +79,17 @@ pub fn words(number: u8, room: &mut [u8]) -> Written
         a field or the address is beyond its width                      \
         there are no words, or over 4096                                \
         the budget is over 1000000                                      \
+        no such refusal                                                 \
+        no such refusal                                                 \
+        a digit is over 9 in the first fifteen places                   \
+        the sign digit is below A                                       \
+        the number has more than fifteen digits                         \
+        no such refusal                                                 \
+        no such refusal                                                 \
+        no such refusal                                                 \
+        no such refusal                                                 \
+        no such refusal                                                 \
+        the signed field is not of 8 bytes                              \
         ";
     let lengths = LENGTHS;
     let row = row_of(number);

@@ -1,6 +1,7 @@
 -- Each test, then the number. Assumes nothing.
 use mathlib.Core.Path.{_≡_, sym, ap, _∙_}
 use borrow.Author.Tests.{lt-ltb, le-ltb}
+use native.Mathlib.Omega.{arith}
 use mathlib.Core.Bool.{Bool, _||_}
 use lib.Dec.{eqb}
 use lib.IntN.{ℤ}
@@ -44,7 +45,7 @@ returns-4 c =
     let test : Bool = eqb x 11 || eqb x 13 in
     let minus : test ≡ isMinus (signOf (signDigit field)) = rw (← d .0) (sym (minus-digits x (d .1))) in
     let number : toZ w64 (ofZ w64 (c .with-sign .result)) ≡ numberIn field =
-    ap (λ (z : ℤ). toZ w64 (ofZ w64 z)) (c .with-sign .ensures) ∙ signed-reads _ (size .1) test ∙ (λ i. signed (minus i) (size .0 i)) in
+    ap (λ (z : ℤ). toZ w64 (ofZ w64 z)) (c .with-sign .ensures) ∙ signed-reads (c .before .size-in .result) (omega (arith, size .1)) test ∙ (λ i. signed (minus i) (size .0 i)) in
     ap R.Number number ∙ read-number field (at .if1 .left) (rw (fine .before .bad-place .ensures) at (fine .if2 .left)) (rw (← d .0) (none-digits _ (d .1) ∙ le-ltb _ 10 (c .before .before .if3 .left)))
 
 pub read-signed-spec : {M : Type 1} → statement M

@@ -1,17 +1,18 @@
 -- 19, or the three pieces. Assumes nothing.
 use Prim.Native.Nat.{_+_, _-_, _*_, _≤_}
-use mathlib.Core.Path.{_≡_, refl}
+use mathlib.Core.Path.{_≡_, refl, _∙_}
 use mathlib.Core.List.{[], _++_}
 use native.Mathlib.Nat.{add-sub-cancel-left}
 use native.Mathlib.Omega.{arith}
-use lib.ListN.{length}
+use lib.ListN.{length, length-take, length-drop}
 use borrow.Author.Needs.{needs}
 use Rattle.digits.proofs.Puts.{put-none, put-turn}
 use Rattle.text.specs.Ascii.{ascii}
-use Rattle.text.proofs.Texts.{too-small}
-use Rattle.lamps.specs.Ending.{fieldDigits, carryOf, sumOf}
+use Rattle.text.specs.Text.{fieldDigits}
+use Rattle.text.proofs.Texts.{too-small, fills, length-digits}
+use Rattle.lamps.specs.Ending.{carryOf, sumOf}
 use Rattle.lamps.proofs.Chain.{then, finished}
-use Rattle.lamps.proofs.Told.{length-digits, length-sum}
+use Rattle.lamps.proofs.Told.{length-sum}
 use Rattle.lamps.proofs.results.summed.Statement.{statement}
 use Rattle.lamps.proofs.results.summed.Tie as tie
 
@@ -34,7 +35,7 @@ returns-2 c =
     let k : first .after .result + n - first .after .result ≡ n = add-sub-cancel-left (first .after .result) n in
     let p = put-none (sumOf field (a .carry)) (a .room .now) in
     let p = then p (ascii " = ") (fieldDigits field ++ carryOf (a .carry)) refl refl (first .after .ensures) h in
-    let p = put-turn p (fieldDigits field) (carryOf (a .carry)) _ n refl (length-digits field) (digits .put-digits .ensures) h in
+    let p = put-turn p (fieldDigits field) (carryOf (a .carry)) _ n refl (length-digits field) (digits .put-digits .ensures .1 ∙ fills (fieldDigits field) _ (rw (k, length-digits field, length-take, length-drop) (omega (arith, h, length-sum field (a .carry), first .after .ensures .0, p .same, p .place)))) h in
     finished (then p (carryOf (a .carry)) [] refl (carry .carry-text .ensures) (rw k at (c .before .before .after2 .ensures)) h) h
 
 pub summed-spec : {M : Type 1} → statement M
