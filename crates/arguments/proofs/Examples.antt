@@ -1,9 +1,11 @@
 -- Arguments, and what they give. Assumes nothing.
 use mathlib.Core.Path.{_≡_, refl}
 use mathlib.Core.List.{[], _∷_}
+use lib.IntN.{pos, negsuc}
 use Rattle.text.specs.Ascii.{ascii}
-use Rattle.arguments.specs.Arguments.{digitValue, numberOf, capitalOf, placeOf, byteForm, addressForm, limitForm, givenOf, digitFromLast, laid}
+use Rattle.arguments.specs.Arguments.{digitValue, numberOf, wholeIn, wholeOf, capitalOf, placeOf, byteForm, addressForm, limitForm, givenOf, digitFromLast, laid}
 use Rattle.arguments.specs.declared.Number.the-variants as N
+use Rattle.arguments.specs.declared.Whole.the-variants as W
 use Rattle.arguments.specs.declared.Given.the-variants as G
 
 a-million : numberOf (ascii "1000000") ≡ N.Is 1000000
@@ -13,6 +15,22 @@ a-million = refl
 one-more : numberOf (ascii "1000001") ≡ N.Wrong
 unfolding numberOf digitValue
 one-more = refl
+
+below-zero : wholeOf (ascii "-12345") ≡ W.Is (negsuc 12344)
+unfolding wholeOf wholeIn digitValue
+below-zero = refl
+
+minus-zero : wholeOf (ascii "-0") ≡ W.Is (pos 0)
+unfolding wholeOf wholeIn digitValue
+minus-zero = refl
+
+sixteen-digits : wholeOf (ascii "+1234567890123456") ≡ W.Long
+unfolding wholeOf wholeIn digitValue
+sixteen-digits = refl
+
+no-number : wholeOf (ascii "-") ≡ W.Wrong
+unfolding wholeOf wholeIn digitValue
+no-number = refl
 
 register-u : givenOf (ascii "u=4F") ≡ G.Register 2 79
 unfolding givenOf byteForm placeOf capitalOf digitValue

@@ -47,10 +47,10 @@ value-grows base n d i h k e =
     let z : 4 * (i + 1) + 1 ≡ 4 * i + 1 + 4 = omega arith in
     rw (z, pow-add 2 (4 * i + 1) 4) (omega arith)
 
-pub value-fits : (base n i : ℕ) → base ≤ 16 → i < 7 → n + 2 ≤ 2 ^ (4 * i + 1) → n * base + 16 < 2 ^ 32
+pub value-fits : (base n i : ℕ) → base ≤ 16 → i < 15 → n + 2 ≤ 2 ^ (4 * i + 1) → n * base + 16 < 2 ^ 64
 value-fits base n i h k e =
     let m : n * base ≤ n * 16 = mul-le-mul-left n h in
-    let p : 2 ^ (4 * i + 1) ≤ 2 ^ 25 = pow-mono {j = 25} (omega arith) in
+    let p : 2 ^ (4 * i + 1) ≤ 2 ^ 57 = pow-mono {j = 57} (omega arith) in
     omega arith
 
 -- digits that fit are no more than that

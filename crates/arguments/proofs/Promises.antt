@@ -17,6 +17,8 @@ use Rattle.arguments.specs.declared.Number.the-variants as N
 use Rattle.arguments.specs.declared.Given.{Given}
 use Rattle.arguments.specs.declared.Given.the-variants as G
 use Rattle.arguments.proofs.Laws.{gives-byte, gives-address, gives-from, gives-to, gives-none}
+use Rattle.arguments.specs.declared.Whole.{Whole}
+use Rattle.arguments.proofs.wholes.whole_of.Reads as whole-of
 use Rattle.arguments.proofs.numbers.number_of.Reads as number-of
 use Rattle.arguments.proofs.numbers.is_number.Reads as is-number
 use Rattle.arguments.proofs.forms.given_of.Reads as given-of
@@ -56,6 +58,9 @@ given-wrong text = (to (byteForm text) (addressForm text) (limitForm (ascii "FRO
     to false false false false p q r s e = (p, q, r, s)
 
 -- ---- no second answer fits: two results that meet one contract at the same arguments are the same, with what stands in the field lent
+
+pub whole-of-sole : (κs : _) (args : _) (r s : Whole) (x y : _) → whole-of.Post κs args r x → whole-of.Post κs args s y → r ≡ s
+whole-of-sole κs args r s x y p q = sole p q
 
 pub number-of-sole : (κs : _) (args : _) (r s : Number) (x y : _) → number-of.Post κs args r x → number-of.Post κs args s y → r ≡ s
 number-of-sole κs args r s x y p q = sole p q

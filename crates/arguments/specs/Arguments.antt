@@ -1,14 +1,17 @@
 -- What stands on the board's command line: numbers, registers with their values, and the cycles to show. Assumes nothing.
 use Prim.Native.Nat.{ℕ, zero, suc, _+_, _-_, _*_, _/_, _%_}
 use mathlib.Core.List.{List, [], _∷_}
-use mathlib.Core.Bool.{Bool, true, cond, _&&_}
+use mathlib.Core.Bool.{Bool, true, false, cond, _&&_, _||_}
 use lib.Dec.{eqb, ltb, leb}
 use lib.ListN.{length, getD, drop, set}
+use Rattle.digits.specs.Packed.{signed}
 use Rattle.text.specs.Ascii.{ascii}
 use Rattle.machine.specs.declared.State.{State}
 use Rattle.channels.specs.Channels.{saved, loaded}
 use Rattle.arguments.specs.declared.Number.{Number}
 use Rattle.arguments.specs.declared.Number.the-variants as N
+use Rattle.arguments.specs.declared.Whole.{Whole}
+use Rattle.arguments.specs.declared.Whole.the-variants as W
 use Rattle.arguments.specs.declared.Given.{Given}
 use Rattle.arguments.specs.declared.Given.the-variants as G
 
@@ -45,6 +48,18 @@ numberFits text = digitsFit 10 7 text && leb (valueFrom 10 0 text) 1000000
 -- the number that a text writes
 unfoldable pub numberOf : List ℕ → Number
 numberOf text = cond (numberFits text) (N.Is (valueFrom 10 0 text)) N.Wrong
+
+-- ---- a whole number
+
+-- 1 to 15 decimal digits, below zero or not; more of them are too many
+unfoldable pub wholeIn : Bool → List ℕ → Whole
+wholeIn minus text =
+    cond (digitsFit 10 15 text) (W.Is (signed minus (valueFrom 10 0 text))) (cond (digitsFit 10 (length text) text) W.Long W.Wrong)
+
+-- '+' or '-' may stand before them
+unfoldable pub wholeOf : List ℕ → Whole
+wholeOf text =
+    cond (eqb (getD text 0 0) 43 || eqb (getD text 0 0) 45) (wholeIn (eqb (getD text 0 0) 45) (drop 1 text)) (wholeIn false text)
 
 -- ---- an argument
 

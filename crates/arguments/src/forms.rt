@@ -18,7 +18,7 @@ fn capital(c: u8) -> u8
 }
 
 // What stands from a place on.
-fn after(text: &[u8], at: usize) -> &[u8]
+pub(crate) fn after(text: &[u8], at: usize) -> &[u8]
     ensures { λ r. ⌜ now r ≡ drop at (now (text .entry)) ⌝ }
 {
     if at < text.len() {

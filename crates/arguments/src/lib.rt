@@ -3,12 +3,14 @@ mod fields;
 mod forms;
 mod numbers;
 mod registers;
+mod wholes;
 
 pub use fields::lay;
 pub use forms::given_of;
 pub use numbers::is_number;
 pub use numbers::number_of;
 pub use registers::with_register;
+pub use wholes::whole_of;
 
 // A number, or a text that is none.
 pub enum Number {
@@ -21,5 +23,12 @@ pub enum Given {
     Register(u8, u16),
     From(u32),
     To(u32),
+    Wrong,
+}
+
+// A whole number of at most fifteen digits, one of more, or a text that is none.
+pub enum Whole {
+    Is(i64),
+    Long,
     Wrong,
 }

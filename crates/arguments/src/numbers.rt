@@ -47,17 +47,25 @@ pub(crate) fn digits_fit(base: u8, most: usize, text: &[u8]) -> bool
 }
 
 // The number that digits write.
-pub(crate) fn value(base: u32, text: &[u8]) -> u32
-    requires { ⌜ (base ≤ 16) × (length (now text) ≤ 7) ⌝ }
+pub(crate) fn long_value(base: u64, text: &[u8]) -> u64
+    requires { ⌜ (base ≤ 16) × (length (now text) ≤ 15) ⌝ }
     ensures { λ r. ⌜ (r ≡ valueFrom base 0 (now (text .entry))) × (r + 2 ≤ 2 ^ (4 * length (now (text .entry)) + 1)) ⌝ }
 {
-    let mut n: u32 = 0;
+    let mut n: u64 = 0;
     let mut i = 0;
     while i < text.len() {
-        n = n * base + digit_value(text[i]) as u32;
+        n = n * base + digit_value(text[i]) as u64;
         i += 1;
     }
     n
+}
+
+// That of a few digits.
+pub(crate) fn value(base: u64, text: &[u8]) -> u32
+    requires { ⌜ (base ≤ 16) × (length (now text) ≤ 7) ⌝ }
+    ensures { λ r. ⌜ (r ≡ valueFrom base 0 (now (text .entry))) × (r + 2 ≤ 2 ^ (4 * length (now (text .entry)) + 1)) ⌝ }
+{
+    long_value(base, text) as u32
 }
 
 pub(crate) fn number_fits(text: &[u8]) -> bool

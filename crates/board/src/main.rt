@@ -3,6 +3,7 @@ mod add;
 mod go;
 mod options;
 mod out;
+mod readout;
 mod runs;
 mod tell;
 
@@ -19,6 +20,8 @@ board lamps add .. | board lamps run ..
     the same, each register as eight lamps
 board walk
     lights one lamp after the other
+board signed FIELD | board signed NUMBER
+    the number of a field of 16 digits, the last of them its sign; or the field of a number of at most fifteen digits
 FROM=n and TO=n show only those cycles; cycle 0 is the state before the first. Letters may be small.
 ",
     );
@@ -48,6 +51,7 @@ enum Command {
     Run,
     Lamps,
     Walk,
+    Signed,
     Help,
     Other,
 }
@@ -68,6 +72,9 @@ fn named(word: &[u8]) -> Command {
     }
     if check::same(word, b"walk") {
         return Command::Walk;
+    }
+    if check::same(word, b"signed") {
+        return Command::Signed;
     }
     if is_help(word) {
         return Command::Help;
@@ -102,7 +109,8 @@ fn main() {
         Command::Run => runs::run(false),
         Command::Lamps => as_lamps(),
         Command::Walk => walk(),
+        Command::Signed => readout::signed(),
         Command::Help => help(),
-        Command::Other => tell::wrong(1, b"is neither add, run, lamps, walk nor help"),
+        Command::Other => tell::wrong(1, b"is neither add, run, lamps, walk, signed nor help"),
     }
 }

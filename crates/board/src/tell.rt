@@ -27,16 +27,37 @@ fn put_front(bytes: &[u8], size: usize) {
     }
 }
 
-// A deck that is refused, in words; none takes more than 64 bytes.
-pub fn refused(at: usize, number: u8) {
+// What is refused, and why, in words; none takes more than 64 bytes.
+fn reason(at: usize, what: &[u8], number: u8) {
     argument(at);
-    io::write_all(STDERR_FILENO, b"is a deck refused by ");
+    io::write_all(STDERR_FILENO, b"is ");
+    io::write_all(STDERR_FILENO, what);
+    io::write_all(STDERR_FILENO, b" refused by ");
     io::print_decimal(STDERR_FILENO, number as u64);
     io::write_all(STDERR_FILENO, b": ");
     let mut words = [0u8; 64];
     if let Written::Text(size) = text::words(number, &mut words) {
         put_front(&words, size);
     }
+}
+
+pub fn refused(at: usize, number: u8) {
+    reason(at, b"a deck", number);
+    io::write_all(STDERR_FILENO, b"\n");
+}
+
+pub fn refused_number(at: usize, number: u8) {
+    reason(at, b"a number", number);
+    io::write_all(STDERR_FILENO, b"\n");
+}
+
+// A field, with the digit for which it is refused, as it was typed, and its place.
+pub fn refused_field(at: usize, number: u8, digit: u8, place: u64) {
+    reason(at, b"a field", number);
+    io::write_all(STDERR_FILENO, b": ");
+    io::write_all(STDERR_FILENO, &[digit]);
+    io::write_all(STDERR_FILENO, b" in place ");
+    io::print_decimal(STDERR_FILENO, place);
     io::write_all(STDERR_FILENO, b"\n");
 }
 

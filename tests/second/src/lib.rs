@@ -1,4 +1,5 @@
-//! A second Model 30 engine, written from document 01 alone, for the proved one to be compared with.
+//! A second Model 30 engine, written from document 01 alone, for the proved one to be compared with; `signed` is written
+//! from request 2 of document 02 alone.
 //!
 //! One file for each section of the paper. Behaviour sits in tables of functions indexed by a field's
 //! code; a code with no entry is a code that is not modelled, so refusal 10 reads the same tables.
@@ -17,10 +18,11 @@ pub mod random;
 pub mod registers;
 pub mod run;
 pub mod shipped;
+pub mod signed;
 pub mod state;
 pub mod status;
 pub mod storage;
 pub mod word;
 
-/// The number of a refusal, as document 01 gives it.
+/// The number of a refusal, as documents 01 and 02 give it.
 pub type Refusal = u8;

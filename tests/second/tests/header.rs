@@ -48,6 +48,7 @@ fn number(rattle: &str) -> &'static str {
         "u16" => "uint16_t",
         "u32" => "uint32_t",
         "u64" => "uint64_t",
+        "i64" => "int64_t",
         "usize" => "size_t",
         other => panic!("a type that the header does not know: {other}"),
     }
@@ -80,7 +81,7 @@ fn exported(source: &str) -> Vec<Signature> {
 #[test]
 fn the_header_declares_what_the_panel_exports() {
     let declared = declared(&read("include/panel.h"));
-    assert_eq!(declared.len(), 10);
+    assert_eq!(declared.len(), 12);
     assert_eq!(declared, exported(&read("crates/panel/src/lib.rt")));
 }
 

@@ -8,6 +8,7 @@ mod decimal;
 mod deck;
 mod draw;
 mod run;
+mod signed;
 mod word;
 
 use crate::random::{mix, Random};
@@ -16,12 +17,13 @@ use crate::state::State;
 /// A program's name, and what computes its text.
 pub type Program = (&'static str, fn() -> String);
 
-pub const PROGRAMS: [Program; 6] = [
+pub const PROGRAMS: [Program; 7] = [
     ("agree_adder", adder::text),
     ("agree_cycle", cycle::text),
     ("agree_decimal", decimal::text),
     ("agree_deck", deck::text),
     ("agree_run", run::text),
+    ("agree_signed", signed::text),
     ("agree_word", word::text),
 ];
 
