@@ -1,4 +1,4 @@
--- Digits packed and unpacked, and what the table of signs says of each digit. Assumes nothing.
+-- Digits in bytes and back, and what the table of signs says of each digit. Assumes nothing.
 use Prim.Native.Nat.{ℕ, zero, suc, _+_, _*_, _<_}
 use mathlib.Core.Path.{_≡_, refl, ap, ap₂}
 use mathlib.Core.Bool.{Bool, true, false, _||_}
@@ -9,52 +9,52 @@ use lib.IntN.{ℤ, pos, negsuc, natAbs}
 use lib.ListN.{length, getD, replicate}
 use Rattle.digits.specs.Digits.{high, low, digits}
 use Rattle.digits.specs.Table.{every}
-use Rattle.digits.specs.Packed.{unpacked, packed, signOf, isMinus, isNone, preferred, signed, belowZero}
+use Rattle.digits.specs.Packed.{digitsIn, inBytes, signOf, isMinus, isNone, preferred, signed, belowZero}
 use Rattle.digits.proofs.Table.{Below, at}
 
 -- ---- digits in bytes
 
-pub length-unpacked : (bs : List ℕ) → length (unpacked bs) ≡ 2 * length bs
-length-unpacked [] = refl
-length-unpacked (b ∷ bs) = let e = length-unpacked bs in omega arith
+pub length-digits-in : (bs : List ℕ) → length (digitsIn bs) ≡ 2 * length bs
+length-digits-in [] = refl
+length-digits-in (b ∷ bs) = let e = length-digits-in bs in omega arith
 
 -- the digits of one byte
-pub unpacked-high : (bs : List ℕ) (i : ℕ) → getD (unpacked bs) (2 * i) 0 ≡ high (getD bs i 0)
-unpacked-high [] i = refl
-unpacked-high (b ∷ bs) zero = refl
-unpacked-high (b ∷ bs) (suc i) = let e : 2 * suc i ≡ suc (suc (2 * i)) = omega arith in rw e (unpacked-high bs i)
+pub high-in : (bs : List ℕ) (i : ℕ) → getD (digitsIn bs) (2 * i) 0 ≡ high (getD bs i 0)
+high-in [] i = refl
+high-in (b ∷ bs) zero = refl
+high-in (b ∷ bs) (suc i) = let e : 2 * suc i ≡ suc (suc (2 * i)) = omega arith in rw e (high-in bs i)
 
-pub unpacked-low : (bs : List ℕ) (i : ℕ) → getD (unpacked bs) (2 * i + 1) 0 ≡ low (getD bs i 0)
-unpacked-low [] i = refl
-unpacked-low (b ∷ bs) zero = refl
-unpacked-low (b ∷ bs) (suc i) = let e : 2 * suc i + 1 ≡ suc (suc (2 * i + 1)) = omega arith in rw e (unpacked-low bs i)
+pub low-in : (bs : List ℕ) (i : ℕ) → getD (digitsIn bs) (2 * i + 1) 0 ≡ low (getD bs i 0)
+low-in [] i = refl
+low-in (b ∷ bs) zero = refl
+low-in (b ∷ bs) (suc i) = let e : 2 * suc i + 1 ≡ suc (suc (2 * i + 1)) = omega arith in rw e (low-in bs i)
 
-pub packed-unpacked : (bs : List ℕ) → packed (unpacked bs) ≡ bs
-packed-unpacked [] = refl
-packed-unpacked (b ∷ bs) = let e : digits (high b) (low b) ≡ b = omega arith in ap₂ (λ (x : ℕ) (l : List ℕ). x ∷ l) e (packed-unpacked bs)
+pub bytes-digits : (bs : List ℕ) → inBytes (digitsIn bs) ≡ bs
+bytes-digits [] = refl
+bytes-digits (b ∷ bs) = let e : digits (high b) (low b) ≡ b = omega arith in ap₂ (λ (x : ℕ) (l : List ℕ). x ∷ l) e (bytes-digits bs)
 
 -- of an even number of digits
-pub unpacked-packed : (k : ℕ) (ds : List ℕ) → length ds ≡ 2 * k → Below 16 ds → unpacked (packed ds) ≡ ds
-unpacked-packed k [] e b = refl
-unpacked-packed k (h ∷ []) e b = absurd (omega arith)
-unpacked-packed zero (h ∷ l ∷ ds) e b = absurd (omega arith)
-unpacked-packed (suc k) (h ∷ l ∷ ds) e b =
+pub digits-bytes : (k : ℕ) (ds : List ℕ) → length ds ≡ 2 * k → Below 16 ds → digitsIn (inBytes ds) ≡ ds
+digits-bytes k [] e b = refl
+digits-bytes k (h ∷ []) e b = absurd (omega arith)
+digits-bytes zero (h ∷ l ∷ ds) e b = absurd (omega arith)
+digits-bytes (suc k) (h ∷ l ∷ ds) e b =
     let small = b .1 .0 in
     let x : high (digits h l) ≡ h = omega arith in
     let y : low (digits h l) ≡ l = omega arith in
-    rw (x, y, unpacked-packed k ds (omega arith) (b .1 .1))
+    rw (x, y, digits-bytes k ds (omega arith) (b .1 .1))
 
 -- they are bytes
-pub packed-below : (ds : List ℕ) → Below 16 ds → Below 256 (packed ds)
-packed-below [] b = tt
-packed-below (h ∷ []) b = tt
-packed-below (h ∷ l ∷ ds) b = let x = b .0 in let y = b .1 .0 in (omega arith, packed-below ds (b .1 .1))
+pub bytes-below : (ds : List ℕ) → Below 16 ds → Below 256 (inBytes ds)
+bytes-below [] b = tt
+bytes-below (h ∷ []) b = tt
+bytes-below (h ∷ l ∷ ds) b = let x = b .0 in let y = b .1 .0 in (omega arith, bytes-below ds (b .1 .1))
 
-pub packed-append : (k : ℕ) (xs ys : List ℕ) → length xs ≡ 2 * k → packed (xs ++ ys) ≡ packed xs ++ packed ys
-packed-append k [] ys e = refl
-packed-append k (h ∷ []) ys e = absurd (omega arith)
-packed-append zero (h ∷ l ∷ xs) ys e = absurd (omega arith)
-packed-append (suc k) (h ∷ l ∷ xs) ys e = ap (λ (r : List ℕ). digits h l ∷ r) (packed-append k xs ys (omega arith))
+pub bytes-append : (k : ℕ) (xs ys : List ℕ) → length xs ≡ 2 * k → inBytes (xs ++ ys) ≡ inBytes xs ++ inBytes ys
+bytes-append k [] ys e = refl
+bytes-append k (h ∷ []) ys e = absurd (omega arith)
+bytes-append zero (h ∷ l ∷ xs) ys e = absurd (omega arith)
+bytes-append (suc k) (h ∷ l ∷ xs) ys e = ap (λ (r : List ℕ). digits h l ∷ r) (bytes-append k xs ys (omega arith))
 
 -- ---- signs
 abbrev same : Bool → Bool → Bool

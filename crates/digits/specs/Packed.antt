@@ -9,15 +9,15 @@ use Rattle.digits.specs.Digits.{high, low, digits}
 -- ---- digits in bytes
 
 -- the digits of some bytes, high digit first
-abbrev pub unpacked : List ℕ → List ℕ
-unpacked [] = []
-unpacked (b ∷ bs) = high b ∷ low b ∷ unpacked bs
+abbrev pub digitsIn : List ℕ → List ℕ
+digitsIn [] = []
+digitsIn (b ∷ bs) = high b ∷ low b ∷ digitsIn bs
 
 -- the bytes of some digits, two to a byte
-abbrev pub packed : List ℕ → List ℕ
-packed [] = []
-packed (h ∷ []) = []
-packed (h ∷ l ∷ ds) = digits h l ∷ packed ds
+abbrev pub inBytes : List ℕ → List ℕ
+inBytes [] = []
+inBytes (h ∷ []) = []
+inBytes (h ∷ l ∷ ds) = digits h l ∷ inBytes ds
 
 -- ---- signs
 

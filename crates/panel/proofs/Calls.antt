@@ -24,7 +24,7 @@ use Rattle.run.specs.declared.Finished.{Finished}
 use Rattle.decimal.specs.Entry.{start, addOf}
 use Rattle.decimal.specs.declared.Added.{Added}
 use Rattle.digits.specs.Lent.{over}
-use Rattle.signed.specs.Signed.{readOf}
+use Rattle.signed.specs.Signed.{readSigned}
 use Rattle.signed.specs.declared.ReadOut.the-variants as R
 use Rattle.signed.proofs.Trips.{read-whole}
 use Rattle.channels.specs.Channels.{saved, loaded}
@@ -137,14 +137,14 @@ added main local m l first second n carry on a r h o q = (λ i. outcome (q i) m 
 
 module _ (field : List ℕ) (number : List ℤ) where
   -- past the answer's own refusal, 19 where no number is lent
-  pub signed-short : (z : ℤ) → R.Number z ≡ readOf field → length number < 1 → answered 19 number ≡ readSignedCall field number
+  pub signed-short : (z : ℤ) → R.Number z ≡ readSigned field → length number < 1 → answered 19 number ≡ readSignedCall field number
   unfolding readSignedCall
   signed-short z e h = rw (← e, lt-ltb (length number) 1 h)
 
-  pub signed-is : (z : ℤ) → R.Number z ≡ readOf field → 1 ≤ length number → answered 0 (set number 0 (toZ w64 (ofZ w64 z))) ≡ readSignedCall field number
+  pub signed-is : (z : ℤ) → R.Number z ≡ readSigned field → 1 ≤ length number → answered 0 (set number 0 (toZ w64 (ofZ w64 z))) ≡ readSignedCall field number
   unfolding readSignedCall
   signed-is z e h = rw (← e, le-ltb (length number) 1 h, read-whole field z (sym e)) (ap (answered 0) (front number z h))
 
-  pub signed-refused : (n : ℕ) → R.Refused n ≡ readOf field → answered n number ≡ readSignedCall field number
+  pub signed-refused : (n : ℕ) → R.Refused n ≡ readSigned field → answered n number ≡ readSignedCall field number
   unfolding readSignedCall
   signed-refused n e = rw (← e)

@@ -31,7 +31,7 @@ use Rattle.deck.specs.declared.Reading.{Reading}
 use Rattle.deck.specs.declared.Reading.the-variants as R
 use Rattle.deck.specs.declared.Writing.{Writing}
 use Rattle.deck.specs.declared.Writing.the-variants as W
-use Rattle.signed.specs.Signed.{readOf as readSigned, writeOf as writeSigned, fieldAfter}
+use Rattle.signed.specs.Signed.{readSigned, writeSigned, fieldAfter}
 use Rattle.signed.specs.declared.ReadOut.{ReadOut}
 use Rattle.signed.specs.declared.ReadOut.the-variants as S
 use Rattle.signed.specs.declared.Wrote.{Wrote}

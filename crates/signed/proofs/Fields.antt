@@ -10,31 +10,31 @@ use borrow.Author.Tests.{lt-ltb, le-ltb}
 use lib.ListN.{length, getD, drop, drop-of-length-le, length-append}
 use lib.Seq.{length-take-le, take-all, drop-cons, getD-take}
 use Rattle.digits.specs.Digits.{high, low}
-use Rattle.digits.specs.Packed.{unpacked, packed}
+use Rattle.digits.specs.Packed.{digitsIn, inBytes}
 use Rattle.digits.specs.Tens.{lastDigits, tensFrom}
-use Rattle.digits.proofs.Packed.{length-unpacked, unpacked-high, unpacked-low, packed-append}
+use Rattle.digits.proofs.Packed.{length-digits-in, high-in, low-in, bytes-append}
 use Rattle.digits.proofs.Tens.{length-last}
 use Rattle.signed.specs.Signed.{fifteen, overNine}
 
 -- the digit at an even place, and at an odd one
-pub even : (field : List ℕ) (place : ℕ) → place % 2 ≡ 0 → getD (unpacked field) place 0 ≡ high (getD field (place / 2) 0)
-even field place e = let p : place ≡ 2 * (place / 2) = omega arith in ap (λ (i : ℕ). getD (unpacked field) i 0) p ∙ unpacked-high field (place / 2)
+pub even : (field : List ℕ) (place : ℕ) → place % 2 ≡ 0 → getD (digitsIn field) place 0 ≡ high (getD field (place / 2) 0)
+even field place e = let p : place ≡ 2 * (place / 2) = omega arith in ap (λ (i : ℕ). getD (digitsIn field) i 0) p ∙ high-in field (place / 2)
 
-pub odd : (field : List ℕ) (place : ℕ) → (place % 2 ≡ 0 → ⊥) → getD (unpacked field) place 0 ≡ low (getD field (place / 2) 0)
+pub odd : (field : List ℕ) (place : ℕ) → (place % 2 ≡ 0 → ⊥) → getD (digitsIn field) place 0 ≡ low (getD field (place / 2) 0)
 odd field place h =
-    let p : place ≡ 2 * (place / 2) + 1 = omega arith in ap (λ (i : ℕ). getD (unpacked field) i 0) p ∙ unpacked-low field (place / 2)
+    let p : place ≡ 2 * (place / 2) + 1 = omega arith in ap (λ (i : ℕ). getD (digitsIn field) i 0) p ∙ low-in field (place / 2)
 
 -- how many of the first fifteen there are
 pub few : (field : List ℕ) → length field < 8 → length (fifteen field) ≡ 2 * length field
-few field h = ap length (take-all 15 (unpacked field) (rw length-unpacked (omega arith))) ∙ length-unpacked field
+few field h = ap length (take-all 15 (digitsIn field) (rw length-digits-in (omega arith))) ∙ length-digits-in field
 
 pub all : (field : List ℕ) → 8 ≤ length field → length (fifteen field) ≡ 15
-all field h = length-take-le 15 (unpacked field) (rw length-unpacked (omega arith))
+all field h = length-take-le 15 (digitsIn field) (rw length-digits-in (omega arith))
 
-module _ (field : List ℕ) (place d : ℕ) (h : place < length (fifteen field)) (small : place < 15) (e : d ≡ getD (unpacked field) place 0) where
+module _ (field : List ℕ) (place d : ℕ) (h : place < length (fifteen field)) (small : place < 15) (e : d ≡ getD (digitsIn field) place 0) where
   -- what is left of them begins with the digit at its place
   next : drop place (fifteen field) ≡ d ∷ drop (place + 1) (fifteen field)
-  next = drop-cons (fifteen field) place 0 h ∙ rw (getD-take 15 (unpacked field) place 0 small, e, add-one place)
+  next = drop-cons (fifteen field) place 0 h ∙ rw (getD-take 15 (digitsIn field) place 0 small, e, add-one place)
 
   pub over-here : 9 < d → overNine place (drop place (fifteen field)) ≡ place
   over-here l = rw (next, lt-ltb 9 d l)
@@ -80,9 +80,9 @@ ended-step (suc i) rest low =
     let ten : rest / 10 / 10 ≡ rest / 100 = omega arith in
     rw (two, ten) (append-assoc (lastDigits (suc (2 * i)) (rest / 100) ++ (rest / 10 % 10 ∷ [])) (rest % 10 ∷ []) (low ∷ []))
 
-pub last-byte : (i rest low : ℕ) → 0 < i → packed (ended i rest low) ≡ packed (ended (i - 1) (rest / 100) (rest / 10 % 10)) ++ ((rest % 10 * 16 + low) ∷ [])
+pub last-byte : (i rest low : ℕ) → 0 < i → inBytes (ended i rest low) ≡ inBytes (ended (i - 1) (rest / 100) (rest / 10 % 10)) ++ ((rest % 10 * 16 + low) ∷ [])
 last-byte zero rest low h = absurd (omega arith)
 last-byte (suc i) rest low h =
     let e : suc i - 1 ≡ i = omega arith in
     let front = ended i (rest / 100) (rest / 10 % 10) in
-    rw (e, ended-step i rest low) (packed-append i front (rest % 10 ∷ low ∷ []) (length-ended i (rest / 100) (rest / 10 % 10)))
+    rw (e, ended-step i rest low) (bytes-append i front (rest % 10 ∷ low ∷ []) (length-ended i (rest / 100) (rest / 10 % 10)))

@@ -8,7 +8,7 @@ use lib.IntN.{ℤ, pos}
 use Rattle.digits.specs.Refusal.{first, Given}
 use Rattle.digits.proofs.Refusals.{exactly, same-refusal}
 use Rattle.digits.proofs.Sole.{sole}
-use Rattle.signed.specs.Signed.{readChecks, numberIn, readOf, writeChecks, fieldFor, writeOf, fieldAfter}
+use Rattle.signed.specs.Signed.{readSignedChecks, numberIn, readSigned, writeSignedChecks, fieldFor, writeSigned, fieldAfter}
 use Rattle.signed.specs.declared.ReadOut.{ReadOut}
 use Rattle.signed.specs.declared.ReadOut.the-variants as R
 use Rattle.signed.specs.declared.Wrote.{Wrote}
@@ -21,23 +21,23 @@ use Rattle.signed.proofs.size.Reads as size
 use Rattle.signed.proofs.write_signed.Reads as write-signed
 
 -- 33, 25, 26
-pub read-exactly : (field : List ℕ) (n : ℕ) → (readOf field ≡ R.Refused n) ↔ Given n (readChecks field)
-unfolding readOf
-read-exactly field = exactly reading-tells (numberIn field) (readChecks field) tt
+pub read-exactly : (field : List ℕ) (n : ℕ) → (readSigned field ≡ R.Refused n) ↔ Given n (readSignedChecks field)
+unfolding readSigned
+read-exactly field = exactly reading-tells (numberIn field) (readSignedChecks field) tt
 
 -- 33, 27
-pub write-exactly : (number : ℤ) (field : List ℕ) (n : ℕ) → (writeOf number field ≡ W.Refused n) ↔ Given n (writeChecks number field)
-unfolding writeOf
-write-exactly number field = exactly writing-tells tt (writeChecks number field) tt
+pub write-exactly : (number : ℤ) (field : List ℕ) (n : ℕ) → (writeSigned number field ≡ W.Refused n) ↔ Given n (writeSignedChecks number field)
+unfolding writeSigned
+write-exactly number field = exactly writing-tells tt (writeSignedChecks number field) tt
 
 -- "the field unchanged"
-pub write-nothing : (number : ℤ) (field : List ℕ) (n : ℕ) → writeOf number field ≡ W.Refused n → fieldAfter number field ≡ field
-unfolding writeOf fieldAfter
-write-nothing number field = same-refusal writing-tells tt (λ n. field) (fieldFor number) (first (writeChecks number field))
+pub write-nothing : (number : ℤ) (field : List ℕ) (n : ℕ) → writeSigned number field ≡ W.Refused n → fieldAfter number field ≡ field
+unfolding writeSigned fieldAfter
+write-nothing number field = same-refusal writing-tells tt (λ n. field) (fieldFor number) (first (writeSignedChecks number field))
 
 -- "minus zero reads as 0", with B and with D
-pub minus-zero : (readOf (0 ∷ 0 ∷ 0 ∷ 0 ∷ 0 ∷ 0 ∷ 0 ∷ 0x0B ∷ []) ≡ R.Number (pos 0)) × (readOf (0 ∷ 0 ∷ 0 ∷ 0 ∷ 0 ∷ 0 ∷ 0 ∷ 0x0D ∷ []) ≡ R.Number (pos 0))
-unfolding readOf
+pub minus-zero : (readSigned (0 ∷ 0 ∷ 0 ∷ 0 ∷ 0 ∷ 0 ∷ 0 ∷ 0x0B ∷ []) ≡ R.Number (pos 0)) × (readSigned (0 ∷ 0 ∷ 0 ∷ 0 ∷ 0 ∷ 0 ∷ 0 ∷ 0x0D ∷ []) ≡ R.Number (pos 0))
+unfolding readSigned
 minus-zero = (refl, refl)
 
 -- ---- no second answer fits: two results that meet one contract at the same arguments are the same, with what stands in the field lent

@@ -3,7 +3,7 @@ use Prim.Native.Nat.{ℕ, zero, suc, _+_, _^_, _<_, _≤_}
 use mathlib.Core.Path.{_≡_, refl, sym, ap, _∙_}
 use mathlib.Core.List.{List, [], _∷_, _++_}
 use mathlib.Core.Bool.{Bool, true, false, cond, not}
-use mathlib.Core.Logic.{inl, inr}
+use mathlib.Core.Logic.{inl, inr, _↔_}
 use borrow.Author.Tests.{ltb-false, leb-false, eqb-true, le-ltb}
 use native.Mathlib.Nat.{add-zero}
 use native.Mathlib.Omega.{arith}
@@ -13,15 +13,15 @@ use lib.ListN.{length, getD, take, drop, length-append, take-append-drop}
 use lib.Seq.{take-at, getD-at, drop-cons, drop-length}
 use mir.Syntax.{w64}
 use mir.Val.{toZ, ofZ}
-use Rattle.digits.specs.Packed.{unpacked, packed, signOf, isMinus, isNone, preferred, signed, belowZero}
+use Rattle.digits.specs.Packed.{digitsIn, inBytes, signOf, isMinus, isNone, preferred, signed, belowZero}
 use Rattle.digits.specs.Tens.{lastDigits, tens}
 use Rattle.digits.proofs.Refusals.{Tells, given-none}
 use Rattle.digits.proofs.Table.{Below, each-append, each-into}
 use Rattle.digits.proofs.Truth.{zero-one, true-not-false}
 use Rattle.digits.proofs.Tens.{length-last, last-below, tens-last, last-tens, tens-lt}
-use Rattle.digits.proofs.Packed.{length-unpacked, packed-unpacked, unpacked-packed, packed-below, preferred-is, size-signed, signed-size}
-use Rattle.signed.specs.Signed.{fifteen, signDigit, fieldWrong, overNine, badPlace, readChecks, numberIn, readOf, writeChecks, fieldOf, fieldFor, writeOf, fieldAfter}
-use Rattle.signed.specs.Trips.{ReadsBack, Kept, WritesBack, Shows, Reached}
+use Rattle.digits.proofs.Packed.{length-digits-in, bytes-digits, digits-bytes, bytes-below, preferred-is, size-signed, signed-size}
+use Rattle.signed.specs.Signed.{fifteen, signDigit, fieldWrong, overNine, badPlace, readSignedChecks, numberIn, readSigned, writeSignedChecks, signedField, fieldFor, writeSigned, fieldAfter}
+use Rattle.signed.specs.Trips.{ReadsBack, KeptSign, WritesBack, Shows, Reached}
 use Rattle.signed.specs.declared.ReadOut.the-variants as R
 use Rattle.signed.specs.declared.Wrote.the-variants as W
 use Rattle.signed.proofs.Whole.{reads, within}
@@ -46,6 +46,13 @@ none-over i (d ∷ ds) h = by (ltb 9 d) refl h (none-over (suc i) ds)
     by true e h on = absurd (omega arith)
     by false e h on = let l = ltb-false 9 d e in (omega arith, on (omega arith))
 
+-- so 25 is not given exactly when each of the fifteen is at most 9
+pub fine-digits : (field : List ℕ) → length field ≡ 8 → (ltb (badPlace field) 15 ≡ false) ↔ Below 10 (fifteen field)
+fine-digits field eight =
+    let fifteen-long = all field (omega arith) in
+    let only : ltb (badPlace field) 15 ≡ false → Below 10 (fifteen field) = λ e. none-over 0 (fifteen field) (omega (arith, ltb-false (badPlace field) 15 e, fifteen-long)) in
+    (only, λ b. le-ltb (badPlace field) 15 (omega (arith, over-none 0 (fifteen field) b, fifteen-long)))
+
 -- a refusal tells its number, and is no number
 pub reading-tells : Tells R.Number R.Refused
 reading-tells = record { number = λ m n e. cc; apart = λ z n e. zero-one cc }
@@ -61,31 +68,31 @@ digits-below size sign small =
     (each-into (λ (d : ℕ). d < 10) (λ (d : ℕ). d < 16) (λ d h. omega arith) (lastDigits 15 size) (last-below 15 size)) (small, tt)
 
 module _ (size sign : ℕ) (small : sign < 16) where
-  unpacked-field : unpacked (fieldOf size sign) ≡ lastDigits 15 size ++ (sign ∷ [])
-  unfolding fieldOf
-  unpacked-field = unpacked-packed 8 (lastDigits 15 size ++ (sign ∷ [])) (length-append (lastDigits 15 size) (sign ∷ [])) (digits-below size sign small)
+  digits-field : digitsIn (signedField size sign) ≡ lastDigits 15 size ++ (sign ∷ [])
+  unfolding signedField
+  digits-field = digits-bytes 8 (lastDigits 15 size ++ (sign ∷ [])) (length-append (lastDigits 15 size) (sign ∷ [])) (digits-below size sign small)
 
-  field-digits : fifteen (fieldOf size sign) ≡ lastDigits 15 size
-  field-digits = ap (take 15) unpacked-field ∙ take-at (lastDigits 15 size) (sign ∷ []) 15 (length-last 15 size)
+  field-digits : fifteen (signedField size sign) ≡ lastDigits 15 size
+  field-digits = ap (take 15) digits-field ∙ take-at (lastDigits 15 size) (sign ∷ []) 15 (length-last 15 size)
 
-  field-sign : signDigit (fieldOf size sign) ≡ sign
-  field-sign = ap (λ (l : List ℕ). getD l 15 0) unpacked-field ∙ getD-at (lastDigits 15 size) sign [] 0 15 (length-last 15 size)
+  field-sign : signDigit (signedField size sign) ≡ sign
+  field-sign = ap (λ (l : List ℕ). getD l 15 0) digits-field ∙ getD-at (lastDigits 15 size) sign [] 0 15 (length-last 15 size)
 
-  field-length : length (fieldOf size sign) ≡ 8
-  unfolding fieldOf
+  field-length : length (signedField size sign) ≡ 8
+  unfolding signedField
   field-length = refl
 
 -- a field that is read is that of its digits and its sign
-read-field : (field : List ℕ) → length field ≡ 8 → Below 10 (fifteen field) → field ≡ fieldOf (tens (fifteen field)) (signDigit field)
-unfolding fieldOf
+read-field : (field : List ℕ) → length field ≡ 8 → Below 10 (fifteen field) → field ≡ signedField (tens (fifteen field)) (signDigit field)
+unfolding signedField
 read-field field eight b =
-    let ds = unpacked field in
-    let sixteen : length ds ≡ 16 = length-unpacked field ∙ rw eight refl in
+    let ds = digitsIn field in
+    let sixteen : length ds ≡ 16 = length-digits-in field ∙ rw eight refl in
     let past : drop 16 ds ≡ [] = rw sixteen at (drop-length ds) in
     let last : drop 15 ds ≡ signDigit field ∷ [] = drop-cons ds 15 0 (omega arith) ∙ ap (λ (l : List ℕ). signDigit field ∷ l) past in
-    sym (packed-unpacked field)
-    ∙ ap packed (sym (take-append-drop 15 ds) ∙ ap (λ (l : List ℕ). fifteen field ++ l) last)
-    ∙ ap (λ (l : List ℕ). packed (l ++ (signDigit field ∷ []))) (sym (last-tens 15 (fifteen field) (all field (omega arith)) b))
+    sym (bytes-digits field)
+    ∙ ap inBytes (sym (take-append-drop 15 ds) ∙ ap (λ (l : List ℕ). fifteen field ++ l) last)
+    ∙ ap (λ (l : List ℕ). inBytes (l ++ (signDigit field ∷ []))) (sym (last-tens 15 (fifteen field) (all field (omega arith)) b))
 
 -- ---- what was written reads back
 
@@ -96,18 +103,18 @@ right-length field e = by (eqb (length field) 8) refl e
     by true p q = eqb-true (length field) 8 p
     by false p q = absurd (true-not-false refl q)
 
-was-written : (number : ℤ) (field : List ℕ) → writeOf number field ≡ W.Written → (length field ≡ 8) × (natAbs number < 10 ^ 15)
-unfolding writeOf
+was-written : (number : ℤ) (field : List ℕ) → writeSigned number field ≡ W.Written → (length field ≡ 8) × (natAbs number < 10 ^ 15)
+unfolding writeSigned
 was-written number field e =
-    let (none, same) = given-none writing-tells tt tt (λ q. refl) (writeChecks number field) tt e in
+    let (none, same) = given-none writing-tells tt tt (λ q. refl) (writeSignedChecks number field) tt e in
     (right-length field (none .0), leb-false (10 ^ 15) (natAbs number) (none .1 .0))
 
-shown : (number : ℤ) → natAbs number < 10 ^ 15 → readOf (fieldFor number) ≡ R.Number number
+shown : (number : ℤ) → natAbs number < 10 ^ 15 → readSigned (fieldFor number) ≡ R.Number number
 shown number h =
     let n = natAbs number in
     let m = belowZero number in
     let p = preferred-is m in
-    let f = fieldOf n (preferred m) in
+    let f = signedField n (preferred m) in
     let d = field-digits n (preferred m) (p .2) in
     let s = field-sign n (preferred m) (p .2) in
     let fine : badPlace f ≡ 15 = ap (overNine 0) d ∙ over-none 0 (lastDigits 15 n) (last-below 15 n) ∙ length-last 15 n in
@@ -117,7 +124,7 @@ shown number h =
 pub reads-back : ReadsBack
 reads-back number field e =
     let (eight, small) = was-written number field e in
-    ap readOf (sym (written field eight number small .1)) ∙ shown number small
+    ap readSigned (sym (written field eight number small .1)) ∙ shown number small
 
 -- ---- writing what was read
 
@@ -127,14 +134,12 @@ record Read (field : List ℕ) (number : ℤ) : Type 0 where
   fine : Below 10 (fifteen field)
   is : numberIn field ≡ number
 
-was-read : (field : List ℕ) (number : ℤ) → readOf field ≡ R.Number number → Read field number
-unfolding readOf
+was-read : (field : List ℕ) (number : ℤ) → readSigned field ≡ R.Number number → Read field number
+unfolding readSigned
 was-read field number e =
-    let (none, same) = given-none reading-tells (numberIn field) number (λ q. cc) (readChecks field) tt e in
+    let (none, same) = given-none reading-tells (numberIn field) number (λ q. cc) (readSignedChecks field) tt e in
     let eight = right-length field (none .0) in
-    let fifteen-long = all field (omega arith) in
-    let past = ltb-false (badPlace field) 15 (none .1 .0) in
-    record { eight = eight; fine = none-over 0 (fifteen field) (omega arith); is = same }
+    record { eight = eight; fine = fine-digits field eight .0 (none .1 .0); is = same }
 
 read-size : (field : List ℕ) (number : ℤ) → Read field number → natAbs number ≡ tens (fifteen field)
 read-size field number r = ap natAbs (sym (r .is)) ∙ size-signed (isMinus (signOf (signDigit field))) (tens (fifteen field))
@@ -145,7 +150,7 @@ read-small field number r =
     let eight = r .eight in rw (read-size field number r) (tens-lt 15 (fifteen field) (all field (omega arith)) (r .fine))
 
 -- its sign is written again exactly for C and D, minus zero excepted
-sign-kept : (field : List ℕ) (number : ℤ) → Read field number → Kept field number → preferred (belowZero number) ≡ signDigit field
+sign-kept : (field : List ℕ) (number : ℤ) → Read field number → KeptSign field number → preferred (belowZero number) ≡ signDigit field
 sign-kept field number r k = by k
   where
     size : ℕ
@@ -155,11 +160,11 @@ sign-kept field number r k = by k
     below zero e some = absurd (some e)
     below (suc n) e some = ap belowZero e
 
-    by : Kept field number → preferred (belowZero number) ≡ signDigit field
+    by : KeptSign field number → preferred (belowZero number) ≡ signDigit field
     by (inl c) = ap (λ (z : ℤ). preferred (belowZero z)) (sym (r .is) ∙ (λ i. signed (isMinus (signOf (c i))) size)) ∙ sym c
     by (inr (d, some)) = ap preferred (below size (sym (r .is) ∙ (λ i. signed (isMinus (signOf (d i))) size)) some) ∙ sym d
 
-kept-sign : (field : List ℕ) (number : ℤ) → preferred (belowZero number) ≡ signDigit field → Kept field number
+kept-sign : (field : List ℕ) (number : ℤ) → preferred (belowZero number) ≡ signDigit field → KeptSign field number
 kept-sign field (pos n) e = inl (sym e)
 kept-sign field (negsuc n) e = inr (sym e, λ q. zero-one cc)
 
@@ -168,20 +173,20 @@ writes-back field number e =
     let r = was-read field number e in
     let small = read-small field number r in
     let w = written field (r .eight) number small in
-    let own : field ≡ fieldOf (natAbs number) (signDigit field) = read-field field (r .eight) (r .fine) ∙ ap (λ (n : ℕ). fieldOf n (signDigit field)) (sym (read-size field number r)) in
+    let own : field ≡ signedField (natAbs number) (signDigit field) = read-field field (r .eight) (r .fine) ∙ ap (λ (n : ℕ). signedField n (signDigit field)) (sym (read-size field number r)) in
     let sign = preferred (belowZero number) in
     let put : signDigit (fieldFor number) ≡ sign = field-sign (natAbs number) sign (preferred-is (belowZero number) .2) in
-    let only : fieldAfter number field ≡ field → Kept field number = λ same. kept-sign field number (sym put ∙ ap signDigit (w .1 ∙ same)) in
-    let always : Kept field number → fieldAfter number field ≡ field = λ k. sym (w .1) ∙ ap (fieldOf (natAbs number)) (sign-kept field number r k) ∙ sym own in
+    let only : fieldAfter number field ≡ field → KeptSign field number = λ same. kept-sign field number (sym put ∙ ap signDigit (w .1 ∙ same)) in
+    let always : KeptSign field number → fieldAfter number field ≡ field = λ k. sym (w .1) ∙ ap (signedField (natAbs number)) (sign-kept field number r k) ∙ sym own in
     (sym (w .0), (only, always))
 
 -- the machine reads the number that it was given
-pub read-whole : (field : List ℕ) (number : ℤ) → readOf field ≡ R.Number number → toZ w64 (ofZ w64 number) ≡ number
+pub read-whole : (field : List ℕ) (number : ℤ) → readSigned field ≡ R.Number number → toZ w64 (ofZ w64 number) ≡ number
 read-whole field number e = let h = read-small field number (was-read field number e) in reads number (within number (omega arith))
 
-field-bytes : (size sign : ℕ) → sign < 16 → Below 256 (fieldOf size sign)
-unfolding fieldOf
-field-bytes size sign small = packed-below (lastDigits 15 size ++ (sign ∷ [])) (digits-below size sign small)
+field-bytes : (size sign : ℕ) → sign < 16 → Below 256 (signedField size sign)
+unfolding signedField
+field-bytes size sign small = bytes-below (lastDigits 15 size ++ (sign ∷ [])) (digits-below size sign small)
 
 pub reached : Reached
 reached number =

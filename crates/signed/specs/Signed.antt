@@ -7,7 +7,7 @@ use lib.IntN.{ℤ, natAbs}
 use lib.ListN.{length, getD, take}
 use Rattle.digits.specs.Refusal.{Check, first, answer}
 use Rattle.digits.specs.Tens.{lastDigits, tens}
-use Rattle.digits.specs.Packed.{unpacked, packed, signOf, isMinus, isNone, preferred, signed, belowZero}
+use Rattle.digits.specs.Packed.{digitsIn, inBytes, signOf, isMinus, isNone, preferred, signed, belowZero}
 use Rattle.signed.specs.declared.ReadOut.{ReadOut}
 use Rattle.signed.specs.declared.ReadOut.the-variants as R
 use Rattle.signed.specs.declared.Wrote.{Wrote}
@@ -19,11 +19,11 @@ greatest = 9223372036854775807
 
 -- "fifteen digits"
 abbrev pub fifteen : List ℕ → List ℕ
-fifteen field = take 15 (unpacked field)
+fifteen field = take 15 (digitsIn field)
 
 -- "and a sign"
 abbrev pub signDigit : List ℕ → ℕ
-signDigit field = getD (unpacked field) 15 0
+signDigit field = getD (digitsIn field) 15 0
 
 -- "33 a lent field of other than 8 bytes"
 abbrev pub fieldWrong : List ℕ → Bool
@@ -41,16 +41,16 @@ abbrev pub badPlace : List ℕ → ℕ
 badPlace field = overNine 0 (fifteen field)
 
 -- "33 .., first; then 25 a digit over 9 in the first fifteen places, 26 a sign digit below A"
-abbrev pub readChecks : List ℕ → List Check
-readChecks field = (33, fieldWrong field) ∷ (25, ltb (badPlace field) 15) ∷ (26, isNone (signOf (signDigit field))) ∷ []
+abbrev pub readSignedChecks : List ℕ → List Check
+readSignedChecks field = (33, fieldWrong field) ∷ (25, ltb (badPlace field) 15) ∷ (26, isNone (signOf (signDigit field))) ∷ []
 
 -- "A, C, E, F plus, B, D minus"; "minus zero reads as 0"
 abbrev pub numberIn : List ℕ → ℤ
 numberIn field = signed (isMinus (signOf (signDigit field))) (tens (fifteen field))
 
 -- "The read-out gives a signed 64-bit number"
-unfoldable pub readOf : List ℕ → ReadOut
-readOf field = answer (first (readChecks field)) R.Refused (R.Number (numberIn field))
+unfoldable pub readSigned : List ℕ → ReadOut
+readSigned field = answer (first (readSignedChecks field)) R.Refused (R.Number (numberIn field))
 
 -- ---- writing
 
@@ -59,20 +59,20 @@ abbrev pub tooLarge : ℤ → Bool
 tooLarge number = leb (10 ^ 15) (natAbs number)
 
 -- "in writing, 33 then 27 number too large"
-abbrev pub writeChecks : ℤ → List ℕ → List Check
-writeChecks number field = (33, fieldWrong field) ∷ (27, tooLarge number) ∷ []
+abbrev pub writeSignedChecks : ℤ → List ℕ → List Check
+writeSignedChecks number field = (33, fieldWrong field) ∷ (27, tooLarge number) ∷ []
 
 -- fifteen digits and a sign digit, two to a byte
-unfoldable pub fieldOf : ℕ → ℕ → List ℕ
-fieldOf size sign = packed (lastDigits 15 size ++ (sign ∷ []))
+unfoldable pub signedField : ℕ → ℕ → List ℕ
+signedField size sign = inBytes (lastDigits 15 size ++ (sign ∷ []))
 
 -- "The way back writes C or D, never D for zero"
 abbrev pub fieldFor : ℤ → List ℕ
-fieldFor number = fieldOf (natAbs number) (preferred (belowZero number))
+fieldFor number = signedField (natAbs number) (preferred (belowZero number))
 
-unfoldable pub writeOf : ℤ → List ℕ → Wrote
-writeOf number field = answer (first (writeChecks number field)) W.Refused W.Written
+unfoldable pub writeSigned : ℤ → List ℕ → Wrote
+writeSigned number field = answer (first (writeSignedChecks number field)) W.Refused W.Written
 
 -- "the field unchanged" where it is refused
 unfoldable pub fieldAfter : ℤ → List ℕ → List ℕ
-fieldAfter number field = answer (first (writeChecks number field)) (λ n. field) (fieldFor number)
+fieldAfter number field = answer (first (writeSignedChecks number field)) (λ n. field) (fieldFor number)

@@ -4,8 +4,8 @@ ghost use Prim.Native.Nat.{_<_, _≤_, min};
 ghost use lib.IntN.{natAbs};
 ghost use lib.ListN.{length, getD};
 ghost use Rattle.digits.specs.Tens.{tens};
-ghost use Rattle.digits.specs.Packed.{unpacked, preferred, signed};
-ghost use Rattle.signed.specs.Signed.{greatest, fifteen, badPlace, readOf, fieldOf, writeOf, fieldAfter};
+ghost use Rattle.digits.specs.Packed.{digitsIn, preferred, signed};
+ghost use Rattle.signed.specs.Signed.{greatest, fifteen, badPlace, readSigned, signedField, writeSigned, fieldAfter};
 use digits::byte_at;
 
 // The number of a field, or how it is refused.
@@ -22,7 +22,7 @@ pub enum Wrote {
 
 // The digit at a place, two to a byte.
 fn digit_at(field: &[u8], place: usize) -> u8
-    ensures { λ r. ⌜ (r ≡ getD (unpacked (now (field .entry))) place 0) × (r < 16) ⌝ }
+    ensures { λ r. ⌜ (r ≡ getD (digitsIn (now (field .entry))) place 0) × (r < 16) ⌝ }
 {
     let byte = byte_at(field, place / 2);
     if place % 2 == 0 { byte / 16 } else { byte % 16 }
@@ -80,7 +80,7 @@ pub fn with_sign(minus: bool, size: u64) -> i64
 
 // The number of a field.
 pub fn read_signed(field: &[u8]) -> ReadOut
-    ensures { λ r. ⌜ r ≡ readOf (now (field .entry)) ⌝ }
+    ensures { λ r. ⌜ r ≡ readSigned (now (field .entry)) ⌝ }
 {
     if field.len() != 8 {
         return ReadOut::Refused(33);
@@ -118,7 +118,7 @@ fn sign_for(minus: bool) -> u8
 // Puts fifteen digits and a sign, from the last byte on.
 fn put(size: u64, sign: u8, field: &mut [u8])
     requires { ⌜ (length (now field) ≡ 8) × (sign < 16) ⌝ }
-    ensures { λ _. ⌜ now (field .exit) ≡ fieldOf size sign ⌝ }
+    ensures { λ _. ⌜ now (field .exit) ≡ signedField size sign ⌝ }
 {
     let mut rest = size;
     let mut low = sign;
@@ -133,7 +133,7 @@ fn put(size: u64, sign: u8, field: &mut [u8])
 
 // Puts the field of a number.
 pub fn write_signed(number: i64, field: &mut [u8]) -> Wrote
-    ensures { λ r. ⌜ (r ≡ writeOf number (now (field .entry))) × (now (field .exit) ≡ fieldAfter number (now (field .entry))) ⌝ }
+    ensures { λ r. ⌜ (r ≡ writeSigned number (now (field .entry))) × (now (field .exit) ≡ fieldAfter number (now (field .entry))) ⌝ }
 {
     if field.len() != 8 {
         return Wrote::Refused(33);

@@ -13,6 +13,7 @@ use second::deck::{words_of, BLOCK, LONGEST};
 use second::random::Random;
 use second::run::Ending;
 use second::shipped;
+use second::signed::write_signed;
 use second::state::{State, I, J, M, N};
 use second::word::build;
 use std::collections::BTreeSet;
@@ -508,6 +509,98 @@ fn a_million_lines_are_soon_written() {
     assert!(took < LONGEST_TIME, "it took {took:?}");
 }
 
+// ---- signed fields
+
+/// A field as it is typed.
+fn typed(field: [u8; 8]) -> String {
+    format!("{:016X}", u64::from_be_bytes(field))
+}
+
+/// A number's field as the second engine writes it.
+fn written(number: i64) -> String {
+    let mut field = [0; 8];
+    write_signed(number, &mut field).expect("at most fifteen digits");
+    typed(field)
+}
+
+/// Numbers of each length, with both signs, and next to the powers of ten.
+fn numbers(random: &mut Random) -> Vec<i64> {
+    let powers = (0..15).map(|power| 10_i64.pow(power));
+    let sizes = powers.flat_map(|ten| [ten - 1, ten, ten + 1, ten + random.below(9 * ten as u64) as i64]);
+    sizes.chain([999_999_999_999_999]).flat_map(|size| [size, -size]).collect()
+}
+
+#[test]
+fn signed_fields_and_numbers_are_shown_as_each_other() {
+    prints(&["signed", "000000000012345D"], "-12345\n");
+    prints(&["signed", "-12345"], "000000000012345D\n");
+    for number in numbers(&mut Random::new(2)) {
+        prints(&["signed", &written(number)], &format!("{number}\n"));
+        prints(&["signed", &number.to_string()], &format!("{}\n", written(number)));
+    }
+}
+
+#[test]
+fn each_sign_digit_is_read() {
+    for sign in "ACEFacef".chars() {
+        prints(&["signed", &format!("000000000012345{sign}")], "12345\n");
+        prints(&["signed", &format!("000000000000000{sign}")], "0\n");
+    }
+    for sign in "BDbd".chars() {
+        prints(&["signed", &format!("000000000012345{sign}")], "-12345\n");
+        prints(&["signed", &format!("000000000000000{sign}")], "0\n");
+    }
+}
+
+#[test]
+fn numbers_may_have_a_sign_and_zeros_in_front() {
+    for (number, field) in [("+7", "7C"), ("007", "7C"), ("-007", "7D"), ("0", "0C"), ("-0", "0C"), ("+0", "0C")] {
+        prints(&["signed", number], &format!("{field:0>16}\n"));
+    }
+    prints(&["signed", "+000000000000001"], "000000000000001C\n");
+}
+
+#[test]
+fn a_refused_field_is_told_with_its_digit() {
+    let told = |field: &str, number: u8, digit: char, place: usize| {
+        let words = in_words(number);
+        tells(
+            &["signed", field],
+            &format!("argument 2 is a field refused by {number}: {words}: {digit} in place {place}"),
+        );
+    };
+    for place in 1..=15 {
+        for digit in "ABCDEFaf".chars() {
+            let mut field: Vec<char> = "111111111111111C".chars().collect();
+            field[place - 1] = digit;
+            told(&field.iter().collect::<String>(), 25, digit, place);
+            field[15] = '5';
+            told(&field.iter().collect::<String>(), 25, digit, place);
+        }
+    }
+    told("1A1B11111111111C", 25, 'A', 2);
+    for sign in '0'..='9' {
+        told(&format!("111111111111111{sign}"), 26, sign, 16);
+    }
+}
+
+#[test]
+fn a_number_of_more_than_fifteen_digits_is_told() {
+    for number in ["-1234567890123456", "+1234567890123456", "12345678901234567", "0000000000000000012"] {
+        tells(&["signed", number], &format!("argument 2 is a number refused by 27: {}", in_words(27)));
+    }
+}
+
+#[test]
+fn what_is_neither_a_field_nor_a_number_is_told() {
+    let long = "1".repeat(64) + "C";
+    for text in ["", "-", "+", "--1", "1-", "1D", "12345C", "00000000012345D", "0000000000012345D", " 1", "1.5", &long]
+    {
+        tells(&["signed", text], "argument 2 is neither a field of 16 digits nor a number");
+    }
+    tells(&["signed", "1", "2"], "argument 3 is one too many");
+}
+
 // ---- usage
 
 #[test]
@@ -524,7 +617,7 @@ fn usage_is_shown_in_each_spelling() {
 fn usage_names_all_that_can_be_given() {
     let usage = board(&["help"]).text();
     let words: BTreeSet<&str> = usage.split(|c: char| !c.is_ascii_alphanumeric()).collect();
-    for word in ["add", "run", "lamps", "walk", "WX", "FROM", "TO"].iter().chain(&NAMES) {
+    for word in ["add", "run", "lamps", "walk", "signed", "WX", "FROM", "TO"].iter().chain(&NAMES) {
         assert!(words.contains(word), "{word}");
     }
     for part in ["digits A to F are allowed", "bad-digit ending"] {
@@ -541,7 +634,13 @@ fn a_missing_argument_is_told_by_its_number() {
         let number = arguments.len() + 1;
         tells(arguments, &format!("argument {number} is missing; board help shows what is asked"));
     };
-    for all in [&["add", "38"][..], &["run", &deck, &main], &["lamps", "add", "38"], &["lamps", "run", &deck, &main]] {
+    for all in [
+        &["add", "38"][..],
+        &["signed"],
+        &["run", &deck, &main],
+        &["lamps", "add", "38"],
+        &["lamps", "run", &deck, &main],
+    ] {
         for count in 1..=all.len() {
             missing(&all[..count]);
         }
@@ -558,8 +657,8 @@ fn an_argument_too_many_is_told() {
 #[test]
 fn a_command_that_is_not_there_is_told() {
     for name in ["frob", "", "ad", "adds", "1", "-x", "FROM=1"] {
-        tells(&[name], "argument 1 is neither add, run, lamps, walk nor help");
-        tells(&[name, "38", "47"], "argument 1 is neither add, run, lamps, walk nor help");
+        tells(&[name], "argument 1 is neither add, run, lamps, walk, signed nor help");
+        tells(&[name, "38", "47"], "argument 1 is neither add, run, lamps, walk, signed nor help");
     }
     for name in ["walk", "help", "lamps", "", "frob"] {
         tells(&["lamps", name], "argument 2 is neither add nor run");

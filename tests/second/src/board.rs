@@ -9,8 +9,8 @@ use crate::state::State;
 use crate::word::LAYOUT;
 use crate::Refusal;
 
-/// The refusals in words, by number; there is no 0.
-pub const WORDS: [&str; 23] = [
+/// The refusals in words, by number; nothing gives 0, 23, 24 or 28 to 32.
+pub const WORDS: [&str; 34] = [
     "",
     "a size is wrong: of the word store, of main or of local storage",
     "WX is not in the word store",
@@ -34,6 +34,17 @@ pub const WORDS: [&str; 23] = [
     "a field or the address is beyond its width",
     "there are no words, or over 4096",
     "the budget is over 1000000",
+    "",
+    "",
+    "a digit is over 9 in the first fifteen places",
+    "the sign digit is below A",
+    "the number has more than fifteen digits",
+    "",
+    "",
+    "",
+    "",
+    "",
+    "the signed field is not of 8 bytes",
 ];
 
 /// A column of a line: as wide as the wider of its heading and its digits.

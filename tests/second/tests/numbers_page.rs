@@ -39,11 +39,12 @@ fn every_refusal_is_told_in_its_words() {
     let page = read("docs/NUMBERS.md");
     let specs = read("crates/text/specs/Words.antt");
     let words = listed(&specs, "refusalWords");
-    assert_eq!(words.len(), 23, "0 to 22");
+    assert_eq!(words.len(), 34, "0 to 33");
     for (number, text) in words.iter().enumerate() {
         assert!(specs.contains(&format!("\"{text}\" ∷  -- {number}\n")), "the number beside {text:?}");
     }
-    assert_eq!(first_two(&rows(&page, "Refusals")), numbered(&words));
+    let given: Vec<_> = numbered(&words).into_iter().filter(|(_, text)| *text != words[0]).collect();
+    assert_eq!(first_two(&rows(&page, "Refusals")), given);
     assert!(page.contains(&format!("`{}`", words[0])), "no words for other numbers");
 }
 

@@ -1,6 +1,6 @@
 -- The answer's number, and the field. Assumes nothing.
 use mathlib.Core.Path.{_≡_, sym, ap, ap₂, _∙_}
-use Rattle.signed.specs.Signed.{writeOf, fieldAfter}
+use Rattle.signed.specs.Signed.{writeSigned, fieldAfter}
 use Rattle.signed.proofs.Whole.{reads}
 use borrow.Author.Needs.{needs}
 use Rattle.panel.specs.Answers.{answered, wroteNumber, writeSignedCall}
@@ -8,7 +8,7 @@ use Rattle.panel.proofs.panel_write_signed.Statement.{statement}
 use Rattle.panel.proofs.panel_write_signed.Tie as tie
 
 -- what the call reads of the number is the number
-wrote : (c : tie.After-write-signed) → (c .write-signed .result ≡ writeOf (c .before .before .before .args .number) (c .before .before .before .args .field .now)) × (c .write-signed .last .1 .0 ≡ fieldAfter (c .before .before .before .args .number) (c .before .before .before .args .field .now))
+wrote : (c : tie.After-write-signed) → (c .write-signed .result ≡ writeSigned (c .before .before .before .args .number) (c .before .before .before .args .field .now)) × (c .write-signed .last .1 .0 ≡ fieldAfter (c .before .before .before .args .number) (c .before .before .before .args .field .now))
 wrote c = rw (reads (c .before .before .before .args .number) (c .before .before .before .fits .number)) at (c .write-signed .ensures)
 
 returns : tie.Need-returns

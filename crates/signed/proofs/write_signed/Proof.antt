@@ -8,7 +8,7 @@ use mir.Syntax.{w64}
 use mir.Val.{toZ, ofZ}
 use Rattle.digits.specs.Packed.{preferred, belowZero}
 use Rattle.digits.proofs.Packed.{preferred-is}
-use Rattle.signed.specs.Signed.{fieldOf}
+use Rattle.signed.specs.Signed.{signedField}
 use Rattle.signed.proofs.Whole.{reads, below-zero}
 use Rattle.signed.proofs.Answers.{write-33, write-27, written}
 use borrow.Author.Needs.{needs}
@@ -48,7 +48,7 @@ returns-3 c =
     let at = small .before .before in
     let start = at .before .before in
     let (answer, field) = written (start .args .field .now) (at .if1 .left) (start .args .number) (rw (← sized (small .before)) (omega (arith, small .if2 .left))) in
-    (answer, c .before .before .put .ensures ∙ (λ i. fieldOf (sized (small .before) i) (signs after i)) ∙ field)
+    (answer, c .before .before .put .ensures ∙ (λ i. signedField (sized (small .before) i) (signs after i)) ∙ field)
 
 pub write-signed-spec : {M : Type 1} → statement M
 write-signed-spec = tie.close (tie.spec returns (λ c κs. search needs) returns-2 (λ c κs. search needs) put-requires (λ c. search needs) returns-3)
