@@ -1,7 +1,8 @@
 /* A start for a board's maker: pack the word P of document 01, run one cycle with it, print the 22 lamp channels. Then
- * add 38, 47 and a carry by the shipped words, a cycle at a time, and look into the adder before each cycle. Last, make
+ * add 38, 47 and a carry by the shipped words, a cycle at a time, and look into the adder before each cycle. Then make
  * that addition on two panels, one with the single-cycle button and then the run button, one with the run button alone.
- * build.sh beside this file builds and runs it.
+ * Last, read a signed field, write its number back, and read one whose sign is bad. build.sh beside this file builds and
+ * runs it.
  */
 #include "../../include/panel.h"
 
@@ -83,12 +84,12 @@ static int lay(struct panel *p) {
     return panel_start(0x10, 0x20, 1, 1, p->state, sizeof p->state) == 0;
 }
 
-static int same(const struct panel *p, const struct panel *q) {
+static int same(const void *p, const void *q, size_t count) {
     const uint8_t *a = (const uint8_t *)p;
     const uint8_t *b = (const uint8_t *)q;
     size_t i = 0;
-    while (i < sizeof *p && a[i] == b[i]) i++;
-    return i == sizeof *p;
+    while (i < count && a[i] == b[i]) i++;
+    return i == count;
 }
 
 static int two_buttons(void) {
@@ -103,8 +104,25 @@ static int two_buttons(void) {
     uint64_t whole = run(&second, words, count, 100);
     printf("7 single cycles, then a run of %u: kind %u\n", (unsigned)(rest >> 32), (unsigned)(rest % 256));
     printf("one run of %u: kind %u\n", (unsigned)(whole >> 32), (unsigned)(whole % 256));
-    printf("lamps and storage are %s\n", same(&first, &second) ? "the same" : "NOT the same");
-    return !same(&first, &second);
+    printf("lamps and storage are %s\n", same(&first, &second, sizeof first) ? "the same" : "NOT the same");
+    return !same(&first, &second, sizeof first);
 }
 
-int main(void) { return one_cycle_of_p() != 0 || shipped_words() != 0 || two_buttons() != 0; }
+/* Fifteen digits and a sign: D is minus, and 5 is no sign. */
+static int signed_fields(void) {
+    static const uint8_t field[8] = {0x00, 0x00, 0x00, 0x00, 0x00, 0x12, 0x34, 0x5D};
+    static const uint8_t bad[8] = {0x00, 0x00, 0x00, 0x00, 0x00, 0x12, 0x34, 0x55};
+    uint8_t written[8] = {0};
+    int64_t number = 0;
+    if (panel_read_signed(field, sizeof field, &number, 1) != 0) return 1;
+    printf("field 000000000012345D is %lld\n", (long long)number);
+    if (panel_write_signed(-12345, written, sizeof written) != 0) return 1;
+    printf("-12345 is written as %s bytes\n", same(field, written, sizeof field) ? "the same" : "OTHER");
+    uint32_t refusal = panel_read_signed(bad, sizeof bad, &number, 1);
+    printf("field 0000000000123455 is refused by %u, and the number stays %lld\n", refusal, (long long)number);
+    return refusal == 0 || !same(field, written, sizeof field);
+}
+
+int main(void) {
+    return one_cycle_of_p() != 0 || shipped_words() != 0 || two_buttons() != 0 || signed_fields() != 0;
+}

@@ -155,6 +155,16 @@ static uint64_t called(int call) {
         uint64_t *words = slice(8);
         return panel_shipped(words, count_of(0));
     }
+    case 10: {
+        uint8_t *field = slice(1);
+        int64_t *room = slice(8);
+        return panel_read_signed(field, count_of(0), room, count_of(1));
+    }
+    case 11: {
+        int64_t value = (int64_t)number();
+        uint8_t *field = slice(1);
+        return panel_write_signed(value, field, count_of(0));
+    }
     default:
         exit(6);
         return 0;

@@ -2,9 +2,9 @@
 use Prim.Native.Nat.{ℕ, zero, suc, _+_, _^_, _<_, _≤_}
 use mathlib.Core.Path.{_≡_, refl, sym, ap, _∙_}
 use mathlib.Core.List.{List, [], _∷_, _++_}
-use mathlib.Core.Bool.{Bool, true, false, cond, not}
+use mathlib.Core.Bool.{Bool, true, false, cond}
 use mathlib.Core.Logic.{inl, inr, _↔_}
-use borrow.Author.Tests.{ltb-false, leb-false, eqb-true, le-ltb}
+use borrow.Author.Tests.{ltb-false, leb-false, eqb-true, le-ltb, not-false}
 use native.Mathlib.Nat.{add-zero}
 use native.Mathlib.Omega.{arith}
 use lib.Dec.{eqb, ltb}
@@ -17,7 +17,7 @@ use Rattle.digits.specs.Packed.{digitsIn, inBytes, signOf, isMinus, isNone, pre
 use Rattle.digits.specs.Tens.{lastDigits, tens}
 use Rattle.digits.proofs.Refusals.{Tells, given-none}
 use Rattle.digits.proofs.Table.{Below, each-append, each-into}
-use Rattle.digits.proofs.Truth.{zero-one, true-not-false}
+use Rattle.digits.proofs.Truth.{zero-one}
 use Rattle.digits.proofs.Tens.{length-last, last-below, tens-last, last-tens, tens-lt}
 use Rattle.digits.proofs.Packed.{length-digits-in, bytes-digits, digits-bytes, bytes-below, preferred-is, size-signed, signed-size}
 use Rattle.signed.specs.Signed.{fifteen, signDigit, fieldWrong, overNine, badPlace, readSignedChecks, numberIn, readSigned, writeSignedChecks, signedField, fieldFor, writeSigned, fieldAfter}
@@ -97,11 +97,7 @@ read-field field eight b =
 -- ---- what was written reads back
 
 right-length : (field : List ℕ) → fieldWrong field ≡ false → length field ≡ 8
-right-length field e = by (eqb (length field) 8) refl e
-  where
-    by : (t : Bool) → eqb (length field) 8 ≡ t → not t ≡ false → length field ≡ 8
-    by true p q = eqb-true (length field) 8 p
-    by false p q = absurd (true-not-false refl q)
+right-length field e = eqb-true (length field) 8 (not-false (eqb (length field) 8) e)
 
 was-written : (number : ℤ) (field : List ℕ) → writeSigned number field ≡ W.Written → (length field ≡ 8) × (natAbs number < 10 ^ 15)
 unfolding writeSigned

@@ -51,8 +51,21 @@ fn buttons() -> String {
         + "lamps and storage are the same\n"
 }
 
+/// What it prints of signed fields: the number of one, whether that is written as its bytes, and what refuses a bad sign.
+fn signed_fields() -> String {
+    let [field, bad] = [0x12345D_u64, 0x123455];
+    let (mut number, mut written) = ([0], [0; 8]);
+    assert_eq!(panel::read_signed(&field.to_be_bytes(), &mut number), 0);
+    let mut text = format!("field {field:016X} is {}\n", number[0]);
+    assert_eq!(panel::write_signed(number[0], &mut written), 0);
+    let which = if written == field.to_be_bytes() { "the same" } else { "OTHER" };
+    text += &format!("{} is written as {which} bytes\n", number[0]);
+    let refusal = panel::read_signed(&bad.to_be_bytes(), &mut number);
+    text + &format!("field {bad:016X} is refused by {refusal}, and the number stays {}\n", number[0])
+}
+
 fn shows_the_example(said: &Said) {
-    let text = cycle_of_p() + &cycles_of_the_sum() + &buttons();
+    let text = cycle_of_p() + &cycles_of_the_sum() + &buttons() + &signed_fields();
     assert_eq!((said.text(), said.status), (text, Some(0)), "{}", said.err);
 }
 
@@ -123,6 +136,7 @@ const ALL: &str = "#include <panel.h>
 #include <cstdio>
 int main() {
     uint64_t words[21] = {};
+    int64_t number[1] = {};
     uint8_t bytes[18] = {}, main[1] = {}, local[1] = {}, state[PANEL_STATE] = {}, work[PANEL_WORK] = {};
     std::printf(\"%u \", panel_take_apart(0, 0, bytes, 17));
     std::printf(\"%u \", panel_pack(bytes, 17, 0, words, 1));
@@ -132,6 +146,8 @@ int main() {
     std::printf(\"%u \", unsigned(panel_add_decimal(main, 1, local, 1, 0, 0, 1, 0) / 256));
     std::printf(\"%u \", panel_read_deck(bytes, 0, words, 1) / 65536);
     std::printf(\"%u \", panel_write_deck(words, 0, bytes, 1) / 65536);
+    std::printf(\"%u \", panel_read_signed(bytes, 8, number, 1));
+    std::printf(\"%u \", panel_write_signed(1000000000000000, bytes, 8));
     std::printf(\"%u \", panel_start(0, 0, 1, 0, state, PANEL_STATE));
     std::printf(\"%u\\n\", panel_shipped(words, 21));
 }
@@ -141,6 +157,6 @@ int main() {
 fn gpp_links_every_function() {
     let source = file(&folder("gpp_source"), "all.cpp", ALL.as_bytes());
     if let Some(said) = linked("g++", &source, "gpp") {
-        assert_eq!((said.text().as_str(), said.status), ("19 19 1 19 1 1 15 21 0 21\n", Some(0)), "{}", said.err);
+        assert_eq!((said.text().as_str(), said.status), ("19 19 1 19 1 1 15 21 26 27 0 21\n", Some(0)), "{}", said.err);
     }
 }

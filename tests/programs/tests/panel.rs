@@ -28,6 +28,13 @@ enum Call {
     NextSum { store: Vec<u64>, state: Vec<u8>, work: Vec<u8> },
     Start { first: u16, second: u16, length: u8, carry: u8, state: Vec<u8> },
     Shipped { words: Vec<u64> },
+    ReadSigned { field: Vec<u8>, room: Vec<i64> },
+    WriteSigned { number: i64, field: Vec<u8> },
+}
+
+/// The same bits.
+fn unsigned(numbers: &[i64]) -> Vec<u64> {
+    numbers.iter().map(|number| *number as u64).collect()
 }
 
 /// What driver.c reads and writes.
@@ -89,6 +96,8 @@ impl Call {
                 .number((*carry).into())
                 .bytes(state),
             Call::Shipped { words } => called(9).words(words),
+            Call::ReadSigned { field, room } => called(10).bytes(field).words(&unsigned(room)),
+            Call::WriteSigned { number, field } => called(11).number(*number as u64).bytes(field),
         }
         .0
     }
@@ -110,6 +119,8 @@ impl Call {
                 panel::start(*first, *second, *length, *carry, state)
             }
             Call::Shipped { words } => panel::shipped(words),
+            Call::ReadSigned { field, room } => panel::read_signed(field, room),
+            Call::WriteSigned { number, field } => panel::write_signed(*number, field),
         }
     }
 
@@ -128,6 +139,8 @@ impl Call {
             Call::NextSum { store, state, work } => message.wide(store).elements(state).elements(work),
             Call::Start { state, .. } => message.elements(state),
             Call::Shipped { words } => message.wide(words),
+            Call::ReadSigned { field, room } => message.elements(field).wide(&unsigned(room)),
+            Call::WriteSigned { field, .. } => message.elements(field),
         }
         .0
     }
@@ -136,6 +149,7 @@ impl Call {
     fn changes_nothing(&self, answer: u64) -> bool {
         match self {
             Call::TakeApart { .. } | Call::Pack { .. } | Call::NextSum { .. } | Call::Start { .. } => answer != 0,
+            Call::ReadSigned { .. } | Call::WriteSigned { .. } => answer != 0,
             Call::Cycle { .. } => answer & 0xFF != 0,
             Call::Run { .. } => answer >> 32 == 0,
             Call::Add { .. } => answer & 0xFF == 2,
@@ -794,5 +808,215 @@ fn the_decimal_entry_runs_the_shipped_words_from_the_start() {
     for ([add, run], answers) in pairs.into_iter().zip(answers.chunks(2)) {
         assert_eq!(answers[1], answers[0] >> 32 << 32 | 1, "as many cycles, and stopped");
         assert_eq!(storage_after(add), storage_after(run));
+    }
+}
+
+/// The ends of fifteen digits.
+const MOST: i64 = 999_999_999_999_999;
+const LEAST: i64 = -999_999_999_999_999;
+
+/// Lengths of a field, right and wrong. 264 is 8 in its last eight bits.
+fn lengths() -> impl Iterator<Item = usize> {
+    (0..=20).chain([264])
+}
+
+/// A field that was read: what was answered, and what is left in the room for its number.
+struct ReadOut {
+    field: Vec<u8>,
+    answer: u64,
+    left: Vec<i64>,
+}
+
+impl ReadOut {
+    /// The sign digit of 8 bytes.
+    fn sign(&self) -> u8 {
+        self.field[7] & 15
+    }
+
+    /// The number, where one was written.
+    fn number(&self) -> Option<i64> {
+        (self.answer == 0).then(|| self.left[0])
+    }
+
+    /// The places of digits over 9, of the first fifteen.
+    fn bad_places(&self) -> Vec<usize> {
+        let digits: Vec<u8> = self.field.iter().flat_map(|byte| [byte >> 4, byte & 15]).take(15).collect();
+        (0..digits.len()).filter(|place| digits[*place] > 9).collect()
+    }
+}
+
+/// Each field is read to the numbers that are lent with it, of which none but the first may change.
+fn read_each(cases: impl Iterator<Item = (Vec<u8>, Vec<i64>)>) -> Vec<ReadOut> {
+    let calls: Vec<Call> = cases.map(|(field, room)| Call::ReadSigned { field, room }).collect();
+    let read_out = |(call, (answer, after)): (&Call, (u64, Call))| {
+        let Call::ReadSigned { room, .. } = call else { unreachable!() };
+        let Call::ReadSigned { field, room: left } = after else { unreachable!() };
+        assert_eq!(left.get(1..), room.get(1..), "{call:?}");
+        ReadOut { field, answer, left }
+    };
+    calls.iter().zip(made(&calls)).map(read_out).collect()
+}
+
+/// A number that was written: what was answered, and the field that is left.
+struct Written {
+    number: i64,
+    answer: u64,
+    field: Vec<u8>,
+}
+
+/// Each number is written to the field that is lent with it.
+fn write_each(cases: impl Iterator<Item = (i64, Vec<u8>)>) -> Vec<Written> {
+    let calls: Vec<Call> = cases.map(|(number, field)| Call::WriteSigned { number, field }).collect();
+    let written = |(answer, after): (u64, Call)| {
+        let Call::WriteSigned { number, field } = after else { unreachable!() };
+        Written { number, answer, field }
+    };
+    made(&calls).into_iter().map(written).collect()
+}
+
+/// Zeros, nines and other digits, with good signs and a bad one: every digit in every place of them.
+fn chosen_fields() -> Vec<Vec<u8>> {
+    let wholes = [0xC, 0xB, 0x9999_9999_9999_999F, 0x9999_9999_9999_999D, 0x1234_5678_9012_345E, 0x1234_5678_9012_3455];
+    let places = (0..16).flat_map(|place| (0..16).map(move |digit| (4 * place, digit)));
+    let fields = places.flat_map(|(at, digit): (u32, u64)| wholes.map(|whole: u64| whole & !(15 << at) | digit << at));
+    fields.map(|field| field.to_be_bytes().to_vec()).collect()
+}
+
+/// Digits, of which one may be over 9, and in the last place any sign.
+fn draw_field(random: &mut Random, length: usize) -> Vec<u8> {
+    let mut field = digits(random, length);
+    if let Some(last) = field.last_mut() {
+        *last = *last & 0xF0 | random.below(16) as u8;
+    }
+    field
+}
+
+/// Chosen and drawn fields of 8 bytes, and drawn ones of every length.
+fn fields_to_read(random: &mut Random) -> Vec<Vec<u8>> {
+    let mut fields = chosen_fields();
+    fields.extend((0..2000).map(|_| draw_field(random, 8)));
+    for _ in 0..20 {
+        fields.extend(lengths().map(|length| draw_field(random, length)));
+    }
+    fields
+}
+
+const READ_OUTS: [Kind<ReadOut>; 19] = [
+    ("plus", |case| case.number().is_some_and(|number| number > 0)),
+    ("minus", |case| case.number().is_some_and(|number| number < 0)),
+    ("the greatest", |case| case.number() == Some(MOST)),
+    ("the least", |case| case.number() == Some(LEAST)),
+    ("plus zero", |case| case.number() == Some(0) && case.sign() == 0xC),
+    ("minus zero of B", |case| case.number() == Some(0) && case.sign() == 0xB),
+    ("minus zero of D", |case| case.number() == Some(0) && case.sign() == 0xD),
+    ("room for two", |case| case.answer == 0 && case.left.len() == 2),
+    ("fewer bytes", |case| case.answer == 33 && case.field.len() < 8),
+    ("more bytes", |case| case.answer == 33 && case.field.len() > 8),
+    ("other than 8 bytes, and no room", |case| case.answer == 33 && case.left.is_empty()),
+    ("a bad digit alone", |case| case.answer == 25 && case.sign() > 9 && !case.left.is_empty()),
+    ("a bad digit, and a bad sign", |case| case.answer == 25 && case.sign() < 10 && !case.left.is_empty()),
+    ("a bad digit, and no room", |case| case.answer == 25 && case.sign() > 9 && case.left.is_empty()),
+    ("a bad digit, a bad sign, and no room", |case| case.answer == 25 && case.sign() < 10 && case.left.is_empty()),
+    ("bad digits", |case| case.answer == 25 && case.bad_places().len() > 1),
+    ("a bad sign alone", |case| case.answer == 26 && !case.left.is_empty()),
+    ("a bad sign, and no room", |case| case.answer == 26 && case.left.is_empty()),
+    ("no room", |case| case.answer == 19),
+];
+
+/// The answers to 8 bytes with this sign digit, and on which side of zero the number is.
+fn answers_to(sign: u8) -> Vec<(u64, i64)> {
+    match sign {
+        0..=9 => vec![(25, 0), (26, 0)],
+        0xB | 0xD => vec![(0, -1), (0, 0), (19, 0), (25, 0)],
+        _ => vec![(0, 1), (0, 0), (19, 0), (25, 0)],
+    }
+}
+
+/// Every sign digit, a bad digit alone in every place, and every length: each is seen with its own answers and no other.
+fn shows_every_sign_place_and_length(seen: &[ReadOut]) {
+    let eight = || seen.iter().filter(|case| case.field.len() == 8);
+    let side = |case: &ReadOut| case.number().map_or(0, i64::signum);
+    let signs: BTreeSet<_> = eight().map(|case| (case.sign(), (case.answer, side(case)))).collect();
+    assert_eq!(signs, (0..16).flat_map(|sign| answers_to(sign).into_iter().map(move |one| (sign, one))).collect());
+    let places: BTreeSet<_> = eight().map(|case| (case.bad_places(), case.answer)).collect();
+    let alone = places.into_iter().filter(|(places, _)| places.len() == 1);
+    assert!(alone.eq((0..15).map(|place| (vec![place], 25))));
+    let refused: BTreeSet<_> = seen.iter().filter(|case| case.answer == 33).map(|case| case.field.len()).collect();
+    assert_eq!(refused, lengths().filter(|length| *length != 8).collect());
+}
+
+/// Each field is read with room for none, for one and for two.
+#[test]
+fn signed_fields_are_read() {
+    let random = &mut Random::new(149);
+    let fields = fields_to_read(random);
+    let mut numbers = |count: usize| (0..count).map(|_| random.next() as i64).collect();
+    let seen = read_each(fields.iter().flat_map(|field| [0, 1, 2].map(|room| (field.clone(), numbers(room)))));
+    each_occurs(&READ_OUTS, &seen);
+    shows_every_sign_place_and_length(&seen);
+    // Writing what was read returns the bytes only for signs C and D, minus zero excepted.
+    let read: Vec<ReadOut> = seen.into_iter().filter(|case| case.answer == 0).collect();
+    let again = write_each(read.iter().map(|case| (case.left[0], vec![0xEE; 8])));
+    for (case, again) in read.iter().zip(again) {
+        let returned = case.sign() == 0xC || case.sign() == 0xD && case.left[0] != 0;
+        assert_eq!((again.answer, again.field == case.field), (0, returned), "{:02X?}", case.field);
+    }
+}
+
+/// Around zero and every power of ten, plus and minus, and at the limits of 64 bits.
+fn chosen_numbers() -> impl Iterator<Item = i64> {
+    let sizes = (0..19).flat_map(|n| (-2..=2).map(move |by| 10_i64.pow(n) + by));
+    sizes.flat_map(|size| [size, -size]).chain([i64::MIN, i64::MIN + 1, i64::MAX - 1, i64::MAX])
+}
+
+/// The chosen numbers, to fields of every length and more of 8 bytes, and drawn numbers of every size.
+fn numbers_to_write(random: &mut Random) -> Vec<(i64, Vec<u8>)> {
+    let mut cases = Vec::new();
+    for length in lengths().chain([8; 5]) {
+        cases.extend(chosen_numbers().map(|number| (number, bytes(random, length))));
+    }
+    cases.extend((0..6000).map(|_| (random.next() as i64 >> random.below(64), bytes(random, 8))));
+    cases
+}
+
+fn is_too_large(number: i64) -> bool {
+    !(LEAST..=MOST).contains(&number)
+}
+
+const WRITTEN: [Kind<Written>; 13] = [
+    ("zero", |case| (case.number, case.answer) == (0, 0)),
+    ("plus", |case| case.number > 0 && case.answer == 0),
+    ("minus", |case| case.number < 0 && case.answer == 0),
+    ("the greatest", |case| (case.number, case.answer) == (MOST, 0)),
+    ("the least", |case| (case.number, case.answer) == (LEAST, 0)),
+    ("one over the greatest", |case| (case.number, case.answer) == (MOST + 1, 27)),
+    ("one under the least", |case| (case.number, case.answer) == (LEAST - 1, 27)),
+    ("the greatest of 64 bits", |case| (case.number, case.answer) == (i64::MAX, 27)),
+    ("the least of 64 bits", |case| (case.number, case.answer) == (i64::MIN, 27)),
+    ("fewer bytes", |case| case.answer == 33 && case.field.len() < 8),
+    ("more bytes", |case| case.answer == 33 && case.field.len() > 8),
+    ("other than 8 bytes, and too large", |case| case.answer == 33 && is_too_large(case.number)),
+    ("other than 8 bytes alone", |case| case.answer == 33 && !is_too_large(case.number)),
+];
+
+/// How many digits a number has, whether it is minus, and what writing it to 8 bytes answers.
+fn sized(case: &Written) -> (usize, bool, u64) {
+    (case.number.unsigned_abs().to_string().len(), case.number < 0, case.answer)
+}
+
+#[test]
+fn signed_fields_are_written() {
+    let random = &mut Random::new(151);
+    let seen = write_each(numbers_to_write(random).into_iter());
+    each_occurs(&WRITTEN, &seen);
+    let sizes: BTreeSet<_> = seen.iter().filter(|case| case.field.len() == 8).map(sized).collect();
+    let answer = |size: usize| if size > 15 { 27 } else { 0 };
+    let expected = (1..20).flat_map(|size| [false, true].map(|minus| (size, minus, answer(size))));
+    assert_eq!(sizes, expected.collect());
+    // Reading what was written returns the number.
+    let written: Vec<Written> = seen.into_iter().filter(|case| case.answer == 0).collect();
+    let again = read_each(written.iter().map(|case| (case.field.clone(), vec![7])));
+    for (case, again) in written.iter().zip(again) {
+        assert_eq!(again.number(), Some(case.number));
     }
 }

@@ -7,7 +7,7 @@ use crate::run::{run, Ending};
 use crate::shipped::{self, run_shipped, SHIPPED};
 use crate::state::State;
 use crate::word::{self, Fields};
-use crate::{deck, Refusal};
+use crate::{deck, signed, Refusal};
 
 /// PANEL_STATE: the bytes of a record.
 pub const STATE: usize = 22;
@@ -162,4 +162,14 @@ pub fn read_deck(bytes: &[u8], words: &mut [u64]) -> u64 {
 
 pub fn write_deck(words: &[u64], bytes: &mut [u8]) -> u64 {
     moved(deck::write_deck(words, bytes))
+}
+
+/// The field is judged first, "then 19 where no number is lent".
+pub fn read_signed(field: &[u8], number: &mut [i64]) -> u64 {
+    let read = signed::read_signed(field);
+    numbered(read.and_then(|value| number.first_mut().ok_or(19).map(|room| *room = value)))
+}
+
+pub fn write_signed(number: i64, field: &mut [u8]) -> u64 {
+    numbered(signed::write_signed(number, field))
 }
