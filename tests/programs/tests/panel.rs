@@ -4,7 +4,7 @@
 #[path = "../../second/tests/common/mod.rs"]
 mod common;
 
-use common::{any_word, each_occurs, lent, lent_to_go_on, one_of, Bench, Kind, Lent};
+use common::{any_word, chosen_numbers, each_occurs, lent, lent_to_go_on, one_of, Bench, Kind, Lent, LEAST, MOST};
 use programs::{folder, root, run, Said};
 use second::deck::{block_check, write_deck, BLOCK, LONGEST};
 use second::panel::{self, RAN, REFUSED, SPENT, STOPPED};
@@ -811,10 +811,6 @@ fn the_decimal_entry_runs_the_shipped_words_from_the_start() {
     }
 }
 
-/// The ends of fifteen digits.
-const MOST: i64 = 999_999_999_999_999;
-const LEAST: i64 = -999_999_999_999_999;
-
 /// Lengths of a field, right and wrong. 264 is 8 in its last eight bits.
 fn lengths() -> impl Iterator<Item = usize> {
     (0..=20).chain([264])
@@ -963,17 +959,11 @@ fn signed_fields_are_read() {
     }
 }
 
-/// Around zero and every power of ten, plus and minus, and at the limits of 64 bits.
-fn chosen_numbers() -> impl Iterator<Item = i64> {
-    let sizes = (0..19).flat_map(|n| (-2..=2).map(move |by| 10_i64.pow(n) + by));
-    sizes.flat_map(|size| [size, -size]).chain([i64::MIN, i64::MIN + 1, i64::MAX - 1, i64::MAX])
-}
-
 /// The chosen numbers, to fields of every length and more of 8 bytes, and drawn numbers of every size.
 fn numbers_to_write(random: &mut Random) -> Vec<(i64, Vec<u8>)> {
     let mut cases = Vec::new();
     for length in lengths().chain([8; 5]) {
-        cases.extend(chosen_numbers().map(|number| (number, bytes(random, length))));
+        cases.extend(chosen_numbers().into_iter().map(|number| (number, bytes(random, length))));
     }
     cases.extend((0..6000).map(|_| (random.next() as i64 >> random.below(64), bytes(random, 8))));
     cases

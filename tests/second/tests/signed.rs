@@ -3,17 +3,13 @@
 
 mod common;
 
-use common::{each_occurs, one_of, Kind};
+use common::{chosen_numbers, each_occurs, one_of, Kind, LEAST, MOST};
 use second::random::Random;
 use second::signed::{read_signed, write_signed};
 use std::collections::BTreeSet;
 
 type Digits = [u8; 15];
 type Field = [u8; 8];
-
-/// The ends of fifteen digits.
-const MOST: i64 = 999_999_999_999_999;
-const LEAST: i64 = -999_999_999_999_999;
 
 /// "A, C, E, F plus, B, D minus": what a sign digit makes of 1, and 0 below A.
 const SIGNS: [i64; 16] = [0, 0, 0, 0, 0, 0, 0, 0, 0, 0, 1, -1, 1, -1, 1, 1];
@@ -119,14 +115,6 @@ fn each_digit_in_each_place() {
             assert_eq!(written(-size, [0xEE; 8]), (Ok(()), field_of(digits, if digit == 0 { 0xC } else { 0xD })));
         }
     }
-}
-
-/// Around zero, both ends, every power of ten and the limits of 64 bits.
-fn chosen_numbers() -> BTreeSet<i64> {
-    let powers = (0..19).map(|n| 10i64.pow(n));
-    let sizes = powers.flat_map(|power| [power - 2, power - 1, power, power + 1]);
-    let limits = [i64::MIN, i64::MIN + 1, i64::MAX - 1, i64::MAX];
-    sizes.flat_map(|size| [size, -size]).chain(limits).collect()
 }
 
 #[test]

@@ -6,6 +6,7 @@ use second::random::Random;
 use second::run::{run, Ending};
 use second::state::State;
 use second::word::{build, index_of, pack, split, with_right_pk, Fields, CF, GIVEN, LAYOUT};
+use std::collections::BTreeSet;
 
 pub type Codes<'a> = &'a [(&'a str, u8)];
 
@@ -297,4 +298,15 @@ pub fn each_occurs<Case>(kinds: &[Kind<Case>], cases: &[Case]) {
         let count = cases.iter().filter(|case| is(case)).count();
         assert!(count >= 5, "{name}: {count} of {} cases", cases.len());
     }
+}
+
+/// The ends of fifteen digits.
+pub const MOST: i64 = 999_999_999_999_999;
+pub const LEAST: i64 = -999_999_999_999_999;
+
+/// Around zero, both ends, every power of ten and the limits of 64 bits.
+pub fn chosen_numbers() -> BTreeSet<i64> {
+    let sizes = (0..19).flat_map(|n| (-2..=2).map(move |by| 10i64.pow(n) + by));
+    let limits = [i64::MIN, i64::MIN + 1, i64::MAX - 1, i64::MAX];
+    sizes.flat_map(|size| [size, -size]).chain(limits).collect()
 }
