@@ -69,10 +69,22 @@ uint32_t panel_next_sum(const uint64_t *store, size_t words, const uint8_t *stat
 uint32_t panel_start(uint16_t first, uint16_t second, uint8_t length, uint8_t carry_in, uint8_t *state, size_t state_len);
 uint32_t panel_shipped(uint64_t *words, size_t room);
 
+/* As panel_start and panel_shipped, for the words of AP and SP. subtract: off at 0, on otherwise. */
+uint32_t panel_start_signed(uint16_t first, uint16_t second, uint8_t length, uint8_t subtract, uint8_t *state, size_t state_len);
+uint32_t panel_shipped_signed(uint64_t *words, size_t room);
+
 /* Decimal add: first field += second field. kind (PANEL_SUMMED, PANEL_BAD_DIGIT or PANEL_REFUSED)
  * + 256 * refusal number + 65536 * carry out + 2^32 * the cycles that ran. carry_in: off at 0, on otherwise. */
 uint64_t panel_add_decimal(uint8_t *main, size_t main_len, uint8_t *local, size_t local_len,
                            size_t first, size_t second, size_t length, uint8_t carry_in);
+
+/* AP and SP, decimal add and subtract with signs: first field += second field, and first field -= second field. The last
+ * digit of a field is its sign, A, C, E, F plus, B, D minus. PANEL_SUMMED, PANEL_BAD_DIGIT (or a bad sign) or PANEL_REFUSED
+ * + 256 * refusal number + 65536 * overflow + 2^32 * the cycles that ran. */
+uint64_t panel_add_signed(uint8_t *main, size_t main_len, uint8_t *local, size_t local_len,
+                          size_t first, size_t second, size_t length);
+uint64_t panel_sub_signed(uint8_t *main, size_t main_len, uint8_t *local, size_t local_len,
+                          size_t first, size_t second, size_t length);
 
 /* Deck to words and words to deck: the count of words, or of bytes, that were written, and
  * 65536 * refusal number (the count is then 0). */

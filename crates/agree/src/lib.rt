@@ -1,11 +1,17 @@
 // What the compared programs share with tests/second: the generator, the digest, and the lines they print.
 mod draw;
+mod fields;
 mod state;
 
 pub use draw::modelled;
 pub use draw::packed;
 pub use draw::raw;
 pub use draw::word_for;
+pub use fields::Trial;
+pub use fields::drawn_fields;
+pub use fields::mix_ends;
+pub use fields::put_byte;
+pub use fields::two_digits;
 pub use state::drawn_state;
 pub use state::eight;
 pub use state::mix_state;

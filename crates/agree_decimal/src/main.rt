@@ -1,32 +1,12 @@
 // Decimal adds against tests/second: every length and carry, bad digits in every place, one field twice, the ends of
 // storage, and each refusal.
+use agree::Trial;
 use decimal::Added;
 
 // The generator's last number, and the digest.
 struct Going {
     x: u64,
     digest: u64,
-}
-
-// An add: how much storage is lent, the two starts, the length and the carry in.
-struct Trial {
-    main: usize,
-    local: usize,
-    first: usize,
-    second: usize,
-    length: usize,
-    carry: bool,
-}
-
-// Two digits, each at most 9.
-fn digits(x: u64) -> u8 {
-    (x / 16 % 10 * 16 + x % 10) as u8
-}
-
-fn put(bytes: &mut [u8], at: usize, byte: u8) {
-    if at < bytes.len() {
-        bytes[at] = byte;
-    }
 }
 
 // Good digits in every byte, which one time in four are all nines and one time in four all zeros.
@@ -46,73 +26,14 @@ fn styled(style: u64, x: u64) -> u8 {
     if style % 4 == 2 {
         return 0;
     }
-    digits(x / 256)
-}
-
-// Storage of 48 bytes, or, for the ends of a large one, of 300 or 65,536.
-fn main_size(x: u64) -> usize {
-    [48, 48, 48, 48, 48, 48, 300, 65536][(x % 8) as usize]
-}
-
-// Where a field starts: near the start of storage, or near its end so that it ends there or runs over.
-fn field_start(main: usize, x: u64) -> usize {
-    let place = (x / 4 % 34) as usize;
-    if x % 4 == 0 {
-        return agree::less(main, place);
-    }
-    place
-}
-
-fn drawn_length(x: u64) -> usize {
-    if x % 16 == 0 {
-        return (x / 16 % 20) as usize;
-    }
-    (x / 16 % 16 + 1) as usize
-}
-
-// Sizes that are wrong in one of four ways, lengths and starts as large as numbers go, or one field twice.
-fn altered(which: u64, t: Trial) -> Trial {
-    let mut t = t;
-    match which {
-        0 => t.main = 0,
-        1 => t.main = 65537,
-        2 => t.local = 255,
-        3 => t.local = 257,
-        4 => t.length = 0xFFFF_FFFF_FFFF_FFFF,
-        5 => t.first = 0xFFFF_FFFF_FFFF_FFFF,
-        6 => t.second = 0xFFFF_FFFF_FFFF_FFF8,
-        7 | 8 | 9 | 10 | 11 | 12 | 13 | 14 => t = same(t),
-        _ => (),
-    }
-    t
-}
-
-// The second field is the first.
-fn same(t: Trial) -> Trial {
-    let first = t.first;
-    Trial { second: first, ..t }
-}
-
-fn drawn(a: u64, b: u64) -> Trial {
-    let main = main_size(a / 0x100);
-    altered(
-        a % 64,
-        Trial {
-            main: main,
-            local: 256,
-            first: field_start(main, b),
-            second: field_start(main, b / 0x1_0000),
-            length: drawn_length(a / 0x1_0000),
-            carry: a / 0x1000 % 2 == 1,
-        },
-    )
+    agree::two_digits(x / 256)
 }
 
 // A bad digit in one byte of storage, near the start of a field.
 fn spoil(main: &mut [u8], start: usize, x: u64) {
     if start < main.len() {
         let at = start + (x / 0x100 % 18) as usize;
-        put(main, at, (x / 0x1_0000 % 256) as u8);
+        agree::put_byte(main, at, (x / 0x1_0000 % 256) as u8);
     }
 }
 
@@ -145,7 +66,7 @@ fn lend(t: Trial, digest: u64, main: &mut [u8], local: &mut [u8], counts: &mut [
         t.first,
         t.second,
         t.length,
-        t.carry,
+        t.on,
     );
     mix_added(digest, answer, counts)
 }
@@ -162,26 +83,18 @@ fn fill_high(x: u64, style: u64, main: &mut [u8]) -> u64 {
     fill_digits(x, style, &mut main[from..])
 }
 
-// The digest after both, and after local storage.
-fn mix_ends(digest: u64, main: &[u8], local: &[u8]) -> u64 {
-    let low = agree::at_most(300, main.len());
-    let d = agree::mix_bytes(digest, &main[0..low]);
-    let from = agree::at_most(agree::less(main.len(), 64), main.len());
-    agree::mix_bytes(agree::mix_bytes(d, &main[from..]), local)
-}
-
 fn case(g: Going, main: &mut [u8], local: &mut [u8], counts: &mut [u32]) -> Going {
     let a = agree::next(g.x);
     let b = agree::next(a);
     let c = agree::next(b);
-    let t = drawn(a, b);
+    let t = agree::drawn_fields(a, b);
     let x = fill_low(c, c / 0x100, main);
     let x = fill_high(x, c / 0x400, main);
     spoil_some(main, t, c);
     let d = lend(t, g.digest, main, local, counts);
     Going {
         x: x,
-        digest: mix_ends(d, main, local),
+        digest: agree::mix_ends(d, main, local),
     }
 }
 

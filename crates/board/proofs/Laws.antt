@@ -2,7 +2,7 @@
 use Prim.Native.Nat.{ℕ, _+_, _-_, _≤_, _<_}
 use mathlib.Core.Path.{_≡_, ap, _∙_}
 use mathlib.Core.List.{List, _++_}
-use mathlib.Core.Bool.{Bool, true}
+use mathlib.Core.Bool.{true}
 use native.Mathlib.Nat.{add-sub-cancel-left}
 use native.Mathlib.Omega.{arith}
 use borrow.Author.Tests.{lt-ltb, le-ltb}
@@ -11,12 +11,15 @@ use lib.Seq.{length-take-le}
 use Rattle.digits.specs.Lent.{overAt}
 use Rattle.digits.specs.Refusal.{first}
 use Rattle.machine.specs.Cycle.{Outcome, outcome}
-use Rattle.decimal.specs.Entry.{addChecks, addOf}
+use Rattle.run.specs.declared.Finished.{Finished}
+use Rattle.decimal.specs.Entry.{addChecks, fromRun, entryOf}
+use Rattle.decimal.proofs.Kept.{accepts}
 use Rattle.decimal.specs.declared.Added.{Added}
 use Rattle.arguments.specs.Arguments.{digitsFit, laid}
 use Rattle.arguments.proofs.Laws.{fit-some, fit-short, length-laid}
-use Rattle.lamps.specs.Ending.{resultOf}
-use Rattle.board.specs.Adds.{firstStart, secondStart, fieldLength, laidOut, addedOf, saidOf}
+use Rattle.results.specs.Results.{resultOf}
+use Rattle.board.specs.Adds.{firstStart, secondStart, fieldLength, laidOut, hasSigns, answerOf, addedOf, saidOf}
+use Rattle.board.specs.declared.add.Operation.{Operation}
 
 -- a number laid in the part of main storage that is lent for it
 pub laid-at : (at n : ℕ) (text m : List ℕ) {x : List ℕ} → at + n ≤ length m → x ≡ laid (length (take (at + n - at) (drop at m))) text
@@ -41,19 +44,23 @@ few-bytes first second p q =
     let c = fit-short 16 32 second q in
     (omega arith, omega arith)
 
--- so the entry takes them
-pub taken : (n : ℕ) → 0 < n → n ≤ 16 → first (addChecks 1024 256 firstStart secondStart n) ≡ 0
+-- so an entry takes them
+taken : (n : ℕ) → 0 < n → n ≤ 16 → first (addChecks 1024 256 firstStart secondStart n) ≡ 0
 taken n p h =
     rw (le-ltb n 1 (omega arith), le-ltb 16 n h, le-ltb 1024 (256 + n) (omega arith), le-ltb 1024 (512 + n) (omega arith), lt-ltb 256 (512 + n) (omega arith), le-ltb 512 (256 + n) (omega arith))
 
+-- and answers from its run
+pub entered : (done : ℕ) (run : Outcome Finished) (main local : List ℕ) (n : ℕ) → (0 < n) × (n ≤ 16) → (length main ≡ 1024) × (length local ≡ 256) → fromRun done run ≡ entryOf done run main local firstStart secondStart n
+entered done run main local n (p, h) (e, f) = accepts done run main local firstStart secondStart n (rw (e, f) (taken n p h))
+
 -- what is said of the answer to them
-pub said : (first second : List ℕ) (carry : Bool) (n : ℕ) (main m l : List ℕ) (r : Added) → n ≡ fieldLength (length first) (length second)
-    → main ≡ laidOut n first second (replicate 1024 0) → outcome r m l ≡ addOf main (replicate 256 0) firstStart secondStart n carry
-    → resultOf (take (firstStart + n - firstStart) (drop firstStart m)) r ≡ saidOf first second carry
+pub said : (operation : Operation) (first second : List ℕ) (n : ℕ) (main m l : List ℕ) (r : Added) → n ≡ fieldLength (length first) (length second)
+    → main ≡ laidOut n first second (replicate 1024 0) → outcome r m l ≡ answerOf operation main (replicate 256 0) n
+    → resultOf (hasSigns operation) (take (firstStart + n - firstStart) (drop firstStart m)) r ≡ saidOf operation first second
 unfolding addedOf saidOf
-said first second carry n main m l r e f o =
+said operation first second n main m l r e f o =
     let k : firstStart + n - firstStart ≡ n = add-sub-cancel-left firstStart n in
-    let w : outcome r m l ≡ addedOf first second carry =
-    o ∙ ap (λ (x : List ℕ). addOf x (replicate 256 0) firstStart secondStart n carry) f
-    ∙ ap (λ (x : ℕ). addOf (laidOut x first second (replicate 1024 0)) (replicate 256 0) firstStart secondStart x carry) e in
-    rw (k, e) (ap (λ (x : Outcome Added). resultOf (take (fieldLength (length first) (length second)) (drop firstStart (x .main))) (x .answer)) w)
+    let w : outcome r m l ≡ addedOf operation first second =
+    o ∙ ap (λ (x : List ℕ). answerOf operation x (replicate 256 0) n) f
+    ∙ ap (λ (x : ℕ). answerOf operation (laidOut x first second (replicate 1024 0)) (replicate 256 0) x) e in
+    rw (k, e) (ap (λ (x : Outcome Added). resultOf (hasSigns operation) (take (fieldLength (length first) (length second)) (drop firstStart (x .main))) (x .answer)) w)

@@ -1,14 +1,17 @@
--- What `board add` lays out, runs and says. Assumes nothing.
+-- What `board add`, `board ap` and `board sp` lay out, run and say. Assumes nothing.
 use Prim.Native.Nat.{ℕ, _+_, _/_, max}
 use mathlib.Core.List.{List}
-use mathlib.Core.Bool.{Bool}
+use mathlib.Core.Bool.{Bool, true, false}
 use lib.ListN.{length, take, drop, replicate}
 use Rattle.digits.specs.Lent.{overAt}
 use Rattle.machine.specs.Cycle.{Outcome}
 use Rattle.decimal.specs.Entry.{addOf}
 use Rattle.decimal.specs.declared.Added.{Added}
 use Rattle.arguments.specs.Arguments.{laid}
-use Rattle.lamps.specs.Ending.{resultOf}
+use Rattle.apsp.specs.Entry.{signedOf}
+use Rattle.results.specs.Results.{resultOf}
+use Rattle.board.specs.declared.add.Operation.{Operation}
+use Rattle.board.specs.declared.add.Operation.the-variants as O
 
 -- the fields' starts
 abbrev pub firstStart : ℕ
@@ -25,14 +28,24 @@ fieldLength first second = (max first second + 1) / 2
 abbrev pub laidOut : ℕ → List ℕ → List ℕ → List ℕ → List ℕ
 laidOut n first second main = overAt secondStart (laid n second) (overAt firstStart (laid n first) main)
 
--- the decimal entry's answer on them, in main storage of 1,024 bytes and local storage that are otherwise zero
-unfoldable pub addedOf : List ℕ → List ℕ → Bool → Outcome Added
-addedOf first second carry =
+-- with signs, each number's last digit is its sign
+abbrev pub hasSigns : Operation → Bool
+hasSigns (O.Add carry) = false
+hasSigns (O.Signed subtract) = true
+
+-- the answer of the operation's own entry
+abbrev pub answerOf : Operation → List ℕ → List ℕ → ℕ → Outcome Added
+answerOf (O.Add carry) main local n = addOf main local firstStart secondStart n carry
+answerOf (O.Signed subtract) main local n = signedOf main local firstStart secondStart n subtract
+
+-- on the two numbers, in main storage of 1,024 bytes and local storage that are otherwise zero
+unfoldable pub addedOf : Operation → List ℕ → List ℕ → Outcome Added
+addedOf operation first second =
     let n : ℕ = fieldLength (length first) (length second) in
-    addOf (laidOut n first second (replicate 1024 0)) (replicate 256 0) firstStart secondStart n carry
+    answerOf operation (laidOut n first second (replicate 1024 0)) (replicate 256 0) n
 
 -- and what that came to
-unfoldable pub saidOf : List ℕ → List ℕ → Bool → List ℕ
-saidOf first second carry =
-    let o : Outcome Added = addedOf first second carry in
-    resultOf (take (fieldLength (length first) (length second)) (drop firstStart (o .main))) (o .answer)
+unfoldable pub saidOf : Operation → List ℕ → List ℕ → List ℕ
+saidOf operation first second =
+    let o : Outcome Added = addedOf operation first second in
+    resultOf (hasSigns operation) (take (fieldLength (length first) (length second)) (drop firstStart (o .main))) (o .answer)

@@ -7,6 +7,7 @@ mod readout;
 mod runs;
 mod tell;
 
+use add::Operation;
 use libc::STDOUT_FILENO;
 
 fn usage() {
@@ -14,9 +15,12 @@ fn usage() {
         STDOUT_FILENO,
         b"board add FIRST SECOND [0|1] [FROM=n] [TO=n]
     adds two numbers of 1 to 32 digits, and a carry of 0 or 1; the digits A to F are allowed, and show the bad-digit ending
+board ap FIRST SECOND [FROM=n] [TO=n]
+board sp FIRST SECOND [FROM=n] [TO=n]
+    adds or subtracts two numbers of 1 to 31 digits with signs, by the program of AP and SP: + or - before or after the digits, or : and a sign digit after them, as 190:F
 board run DECK MAIN CYCLES [I=HH ..] [FROM=n] [TO=n]
     runs a deck over a storage image for at most so many cycles, from the registers given: I J U V L T D R S G H M N=HH, WX=HHH
-board lamps add .. | board lamps run ..
+board lamps add .. | board lamps ap .. | board lamps sp .. | board lamps run ..
     the same, each register as eight lamps
 board walk
     lights one lamp after the other
@@ -48,6 +52,8 @@ fn walk() {
 
 enum Command {
     Add,
+    Ap,
+    Sp,
     Run,
     Lamps,
     Walk,
@@ -63,6 +69,12 @@ fn is_help(word: &[u8]) -> bool {
 fn named(word: &[u8]) -> Command {
     if check::same(word, b"add") {
         return Command::Add;
+    }
+    if check::same(word, b"ap") {
+        return Command::Ap;
+    }
+    if check::same(word, b"sp") {
+        return Command::Sp;
     }
     if check::same(word, b"run") {
         return Command::Run;
@@ -93,9 +105,11 @@ fn as_lamps() {
         return;
     }
     match command_at(2) {
-        Command::Add => add::add(true),
+        Command::Add => add::add(true, Operation::Add(false)),
+        Command::Ap => add::add(true, Operation::Signed(false)),
+        Command::Sp => add::add(true, Operation::Signed(true)),
         Command::Run => runs::run(true),
-        _ => tell::wrong(2, b"is neither add nor run"),
+        _ => tell::wrong(2, b"is neither add, ap, sp nor run"),
     }
 }
 
@@ -105,12 +119,17 @@ fn main() {
         return;
     }
     match command_at(1) {
-        Command::Add => add::add(false),
+        Command::Add => add::add(false, Operation::Add(false)),
+        Command::Ap => add::add(false, Operation::Signed(false)),
+        Command::Sp => add::add(false, Operation::Signed(true)),
         Command::Run => runs::run(false),
         Command::Lamps => as_lamps(),
         Command::Walk => walk(),
         Command::Signed => readout::signed(),
         Command::Help => help(),
-        Command::Other => tell::wrong(1, b"is neither add, run, lamps, walk, signed nor help"),
+        Command::Other => tell::wrong(
+            1,
+            b"is neither add, ap, sp, run, lamps, walk, signed nor help",
+        ),
     }
 }

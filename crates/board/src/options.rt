@@ -15,6 +15,13 @@ pub enum Asked {
     Wrong,
 }
 
+// What a command takes beside the cycles to show: registers, a carry before them, or nothing.
+pub enum Takes {
+    Registers,
+    Carry,
+    Cycles,
+}
+
 // The place of a command's first argument.
 pub(crate) fn first_at(lamps: bool) -> usize
     ensures { λ r. ⌜ r ≤ 3 ⌝ }
@@ -50,56 +57,49 @@ fn once(at: usize, place: u8, seen: &mut [u8], o: Options) -> Asked {
     Asked::Options(o)
 }
 
-fn wrong(at: usize, registers: bool) -> Asked {
-    if registers {
-        tell::wrong(
+fn wrong(at: usize, takes: Takes) -> Asked {
+    match takes {
+        Takes::Registers => tell::wrong(
             at,
             b"is neither a register and its value, as I=HH or WX=HHH, nor FROM=n nor TO=n",
-        );
-    } else {
-        tell::wrong(
+        ),
+        Takes::Carry => tell::wrong(
             at,
             b"is neither FROM=n nor TO=n, nor 0 or 1 for a carry before them",
-        );
+        ),
+        Takes::Cycles => tell::wrong(at, b"is neither FROM=n nor TO=n"),
     }
     Asked::Wrong
 }
 
-fn register(
-    at: usize,
-    o: Options,
-    registers: bool,
-    place: u8,
-    value: u16,
-    seen: &mut [u8],
-) -> Asked {
-    if !registers {
-        return wrong(at, registers);
-    }
+fn register(at: usize, o: Options, takes: Takes, place: u8, value: u16, seen: &mut [u8]) -> Asked {
+    let Takes::Registers = takes else {
+        return wrong(at, takes);
+    };
     let state = arguments::with_register(o.state, place, value);
     once(at, place, seen, Options { state: state, ..o })
 }
 
 // One argument more.
-fn option(at: usize, o: Options, registers: bool, seen: &mut [u8]) -> Asked {
+fn option(at: usize, o: Options, takes: Takes, seen: &mut [u8]) -> Asked {
     let mut text = [0u8; 16];
     let n = os::arg(at, &mut text);
     match arguments::given_of(&text[..n]) {
-        Given::Register(place, value) => register(at, o, registers, place, value, seen),
+        Given::Register(place, value) => register(at, o, takes, place, value, seen),
         Given::From(cycle) => once(at, 14, seen, Options { from: cycle, ..o }),
         Given::To(cycle) => once(at, 15, seen, Options { to: cycle, ..o }),
-        Given::Wrong => wrong(at, registers),
+        Given::Wrong => wrong(at, takes),
     }
 }
 
 // All arguments from `first` on; a wrong one is told.
-pub fn read(first: usize, registers: bool) -> Asked {
+pub fn read(first: usize, takes: Takes) -> Asked {
     let count = os::arg_count();
     let mut seen = [0u8; 16];
     let mut o = none();
     let mut at = first;
     while at < count {
-        match option(at, o, registers, &mut seen) {
+        match option(at, o, takes, &mut seen) {
             Asked::Options(next) => {
                 o = next;
             }

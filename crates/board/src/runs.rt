@@ -6,6 +6,7 @@ use crate::go;
 use crate::go::View;
 use crate::options;
 use crate::options::Asked;
+use crate::options::Takes;
 use crate::out;
 use crate::tell;
 use arguments::Number;
@@ -38,7 +39,7 @@ fn read_file(at: usize, room: &mut [u8]) -> Input
 
 // All that a run asks is there: the words, the image and the budget.
 fn over(lamps: bool, words: &[u64], main: &mut [u8], budget: u32, first: usize) {
-    let Asked::Options(o) = options::read(first, true) else {
+    let Asked::Options(o) = options::read(first, Takes::Registers) else {
         return;
     };
     let view = View {

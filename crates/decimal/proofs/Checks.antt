@@ -1,12 +1,17 @@
--- The entry's tests as the code makes them: no sum of wild numbers is formed. Assumes nothing.
+-- The entry's tests as the code makes them, where no sum of wild numbers is formed; and what they leave. Assumes nothing.
 use Prim.Native.Nat.{ℕ, suc, _+_, _-_, _<_, _≤_}
 use mathlib.Core.Path.{_≡_, refl, sym}
 use mathlib.Core.Bool.{Bool, true, false, not, _&&_}
 use native.Mathlib.Omega.{arith}
-use borrow.Author.Tests.{eqb-false, ltb-true, ltb-false, lt-ltb}
+use borrow.Author.Tests.{eqb-true, eqb-false, ltb-true, ltb-false, lt-ltb}
 use lib.Dec.{eqb, ltb}
-use Rattle.digits.proofs.Truth.{same-test}
-use Rattle.decimal.specs.Entry.{pastEnd, overlap}
+use Rattle.digits.specs.Refusal.{first}
+use Rattle.digits.specs.Sizes.{storageWrong}
+use Rattle.digits.proofs.Refusals.{first-none}
+use Rattle.digits.proofs.Sizes.{right-storage}
+use Rattle.digits.proofs.Truth.{zero-one, neither, same-test}
+use Rattle.decimal.specs.Entry.{pastEnd, overlap, addChecks}
+use Rattle.decimal.proofs.Pass2.{Clear}
 
 -- a field as long as main storage or longer, and a shorter one
 pub past-long : (main start n : ℕ) → main < n → true ≡ pastEnd main start n
@@ -33,3 +38,39 @@ overlap-is a b n = by (eqb a b) (ltb ((a - b) + (b - a)) n) refl refl
         let l = ltb-false ((a - b) + (b - a)) n f in
         let ne = eqb-false a b e in
         far (ltb a (b + n)) (ltb b (a + n)) refl refl (λ x y. ne (omega arith))
+
+-- ---- two fields of n bytes, at a and at b
+
+pub record Fit (main local a b n : ℕ) : Type 0 where
+  pub sizes : storageWrong main local ≡ false
+  pub fits : main ≤ 65536
+  pub some : 1 ≤ n
+  pub few : n ≤ 16
+  pub in-a : a + n ≤ main
+  pub in-b : b + n ≤ main
+  pub clear : Clear a b n
+
+-- they start together, or are apart
+clear-of : (a b n : ℕ) → overlap a b n ≡ false → Clear a b n
+clear-of a b n o i j h k e = by (eqb a b) (ltb a (b + n)) (ltb b (a + n)) refl refl refl o
+  where
+    by : (p q r : Bool) → eqb a b ≡ p → ltb a (b + n) ≡ q → ltb b (a + n) ≡ r → not p && (q && r) ≡ false → ⊥
+    by true q r x y z o = omega (arith, eqb-true a b x)
+    by false false r x y z o = omega (arith, ltb-false a (b + n) y)
+    by false true false x y z o = omega (arith, ltb-false b (a + n) z)
+    by false true true x y z o = zero-one cc
+
+pub checked : (main local a b n : ℕ) → first (addChecks main local a b n) ≡ 0 → Fit main local a b n
+checked main local a b n e =
+    let none = first-none (addChecks main local a b n) tt e in
+    let (short, long) = neither (ltb n 1) (ltb 16 n) (none .1 .0) in
+    let (past-a, past-b) = neither (pastEnd main a n) (pastEnd main b n) (none .1 .1 .0) in
+    record {
+      sizes = none .0;
+      fits = right-storage main local (none .0) .0;
+      some = ltb-false n 1 short;
+      few = ltb-false 16 n long;
+      in-a = ltb-false main (a + n) past-a;
+      in-b = ltb-false main (b + n) past-b;
+      clear = clear-of a b n (none .1 .1 .1 .0);
+    }

@@ -12,7 +12,10 @@ use Rattle.digits.specs.Digits.{bothDecimal}
 use Rattle.digits.proofs.Truth.{both}
 use Rattle.adder.proofs.Laws.{both-at-most}
 use Rattle.decimal.specs.Value.{value, decimalField}
-use Rattle.decimal.proofs.Pass2.{Sound}
+
+-- n bytes from a on are decimal
+abbrev pub Sound : List ℕ → ℕ → ℕ → Type 0
+Sound main a n = (i : ℕ) → i < n → bothDecimal (getD main (a + i) 0) ≡ true
 
 -- a field of decimal digits, byte by byte
 pub field-sound : (main : List ℕ) (a n : ℕ) → decimalField main a n ≡ true → Sound main a n
@@ -36,6 +39,12 @@ value-lt main a (suc n) s =
     let v = value-lt main a n (λ i h. s i (omega arith)) in
     let b = both-at-most (getD main (a + n) 0) (s n (omega arith)) in
     rw pow-suc (omega arith)
+
+-- the same bytes write the same
+pub value-same : (s t : List ℕ) (a n : ℕ) → ((j : ℕ) → j < n → getD s (a + j) 0 ≡ getD t (a + j) 0) → value s a n ≡ value t a n
+unfolding value
+value-same s t a zero h = refl
+value-same s t a (suc n) h = rw (value-same s t a n (λ j k. h j (omega arith)), h n (omega arith))
 
 -- a value and a carry above it
 module _ (v p sum : ℕ) (k : Bool) (h : v < p) (e : v + p * one k ≡ sum) where

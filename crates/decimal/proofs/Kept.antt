@@ -1,216 +1,197 @@
--- The entry keeps its promise. Assumes nothing.
+-- An entry keeps its promise: what any of them answers, from how its run ends; and the decimal entry. Assumes nothing.
 use Prim.Native.Nat.{ℕ, zero, suc, _+_, _*_, _^_, _<_, _≤_}
 use mathlib.Core.Path.{_≡_, refl, sym, ap, subst, _∙_}
 use mathlib.Core.List.{List}
-use mathlib.Core.Bool.{Bool, true, false, cond, _&&_, not}
-use mathlib.Core.Logic.{⊎-elim, _↔_}
+use mathlib.Core.Bool.{Bool, true, false, cond, _&&_}
+use mathlib.Core.Logic.{_↔_}
 use native.Mathlib.Omega.{arith}
-use borrow.Author.Tests.{ltb-false, eqb-true}
-use lib.Dec.{eqb, ltb}
+use borrow.Author.Tests.{eq-eqb}
+use lib.Dec.{eqb}
 use lib.ListN.{length}
-use Rattle.digits.specs.Bits.{bit}
-use Rattle.digits.proofs.Bits.{bit-with}
+use Rattle.digits.specs.Bits.{one, bit}
 use Rattle.digits.specs.Refusal.{Check, first, answer, Given}
-use Rattle.digits.proofs.Refusals.{first-none, exactly}
+use Rattle.digits.proofs.Refusals.{exactly}
 use Rattle.digits.proofs.Refusals as R
-use Rattle.digits.proofs.Sizes.{right-storage}
-use Rattle.digits.proofs.Truth.{zero-one, both, neither}
+use Rattle.digits.proofs.Truth.{zero-one, both}
 use Rattle.machine.specs.Cycle.{Outcome, outcome}
-use Rattle.run.specs.Run.{ended}
+use Rattle.machine.specs.declared.State.{State}
+use Rattle.run.specs.Run.{ended, runOf}
 use Rattle.run.specs.declared.Finished.{Finished}
 use Rattle.run.specs.declared.Ending.the-variants.{Stopped}
-use Rattle.run.proofs.Goes.{Machine, machine, Halts, Goes}
-use Rattle.decimal.specs.Program.{shipped}
+use Rattle.run.proofs.Goes.{machine, Halts, Right, goes-right}
 use Rattle.decimal.specs.Value.{value, decimalField}
-use Rattle.decimal.specs.Entry.{pastEnd, overlap, addChecks, start, bound, runFor, answeredAt, fromRun, addOf}
-use Rattle.decimal.specs.Promise.{untilBad, cyclesIn, exactSum, Sums, Bad, Untouched, bothFields, Promise}
+use Rattle.decimal.specs.Program.{shipped}
+use Rattle.decimal.specs.Entry.{addChecks, start, bound, runFor, answeredAt, fromRun, entryOf, SUMMED, addOf}
+use Rattle.decimal.specs.Promise.{untilBad, cyclesIn, exactSum, Sums, Bad, Untouched, bothFields, Accepted, Keeps, Promise}
 use Rattle.decimal.specs.declared.Added.{Added}
 use Rattle.decimal.specs.declared.Added.the-variants.{Summed, BadDigit, Refused}
 use Rattle.decimal.proofs.Steps.{idle, run-stops}
-use Rattle.decimal.proofs.Pairs.{s0-kept}
+use Rattle.decimal.proofs.Places.{Place, Reaches, Refuses}
+use Rattle.decimal.proofs.Places as P
+use Rattle.decimal.proofs.Pass2.{Passing}
+use Rattle.decimal.proofs.Checks.{Fit, checked}
 use Rattle.decimal.proofs.Fields.{sound-field, value-lt, remainder, quotient}
-use Rattle.decimal.proofs.Pass2.{Clear}
-use Rattle.decimal.proofs.Whole.{Fit, right-sized, AtStart, Adds, Spots, adds, spots, until-le, stop-14}
+use Rattle.decimal.proofs.Whole.{right, at-end, adds, sum-stands, spots, until-le}
+use Rattle.decimal.proofs.Plain.{stop-14}
 
--- fields that start together, or that are apart
-clear-of : (a b n : ℕ) → overlap a b n ≡ false → Clear a b n
-clear-of a b n o i j h k e = by (eqb a b) (ltb a (b + n)) (ltb b (a + n)) refl refl refl o
-  where
-    by : (p q r : Bool) → eqb a b ≡ p → ltb a (b + n) ≡ q → ltb b (a + n) ≡ r → not p && (q && r) ≡ false → ⊥
-    by true q r x y z o = omega (arith, eqb-true a b x)
-    by false false r x y z o = omega (arith, ltb-false a (b + n) y)
-    by false true false x y z o = omega (arith, ltb-false b (a + n) z)
-    by false true true x y z o = zero-one cc
+-- ---- any entry
 
-pub checked : (main local a b n : ℕ) → first (addChecks main local a b n) ≡ 0 → Fit main local a b n
-checked main local a b n e =
-    let none = first-none (addChecks main local a b n) tt e in
-    let (short, long) = neither (ltb n 1) (ltb 16 n) (none .1 .0) in
-    let (past-a, past-b) = neither (pastEnd main a n) (pastEnd main b n) (none .1 .1 .0) in
-    record {
-      sizes = none .0;
-      fits = right-storage main local (none .0) .0;
-      some = ltb-false n 1 short;
-      few = ltb-false 16 n long;
-      in-a = ltb-false main (a + n) past-a;
-      in-b = ltb-false main (b + n) past-b;
-      clear = clear-of a b n (none .1 .1 .1 .0);
-    }
+-- its run comes to a stop, within the bound, and of the answer and the storages holds P
+pub record Finishes (done : ℕ) (run : Outcome Finished) (n : ℕ) (P : Added → List ℕ → List ℕ → Type 0) : Type 0 where
+  pub x : State
+  pub count : ℕ
+  pub main′ : List ℕ
+  pub local′ : List ℕ
+  pub is : run ≡ ended Stopped x count main′ local′
+  pub few : count ≤ bound n
+  pub holds : P (answeredAt done (record { ending = Stopped; state = x; count = count })) main′ local′
 
-module _ (main local : List ℕ) (a b n : ℕ) (c : Bool) (f : Fit (length main) (length local) a b n) where
-  entry : AtStart n a b main local (start a b n c) c
-  entry =
-      record {
-        fit = f;
-        i = omega (arith, f .in-a, f .fits, f .some);
-        j = omega arith;
-        u = omega (arith, f .in-b, f .fits, f .some);
-        v = omega arith;
-        l = refl;
-        first = omega arith;
-        second = omega arith;
-        carry = bit-with 0 3 c;
-        s0 = s0-kept 0 c;
-      }
-
-  -- the run of the program, from what its cycles come to
-  run-is : (k : ℕ) (x : Machine) → Goes shipped k (machine (start a b n c) main local) x → Halts shipped x → k < bound n
-      → runFor main local a b n c ≡ ended Stopped (x .state) k (x .main) (x .local)
-  run-is k x g h less = run-stops shipped (bound n) k (start a b n c) main local x (right-sized main local a b n f) (omega (arith, f .few)) g h less
-
-  -- every digit is 0 to 9
-  module _ (d : bothFields main a b n ≡ true) where
-    ending : Adds n a b main local (start a b n c) c
-    ending =
-        let (first, second) = both (decimalField main a n) (decimalField main b n) d in
-        adds n a b main local (start a b n c) c entry first second
-
-    sum-run : runFor main local a b n c ≡ ended Stopped (idle 0x14 (ending .x)) (14 * n + 4) (ending .main′) local
-    sum-run =
-        run-is (14 * n + 4) (machine (idle 0x14 (ending .x)) (ending .main′) local) (ending .goes)
-        (stop-14 (ending .main′) local (ending .x) (rw (ending .summed .size) (right-sized main local a b n f))) (omega (arith, f .some))
-
-    sum-promise : Sums main local a b n c (Summed (bit (ending .x .s) 3) (14 * n + 4)) (ending .main′) local
-    sum-promise =
-        let z = ending .summed in
-        let v = value-lt (ending .main′) a n (z .digits) in
-        record {
-          out = ending .k;
-          summed = ap (λ (k : Bool). Summed k (14 * n + 4)) (ending .carry);
-          remainder = remainder (value (ending .main′) a n) (100 ^ n) (exactSum main a b n c) (ending .k) v (z .sum);
-          quotient = quotient (value (ending .main′) a n) (100 ^ n) (exactSum main a b n c) (ending .k) v (z .sum);
-          decimal = sound-field (ending .main′) a n (z .digits);
-          size = z .size;
-          others = λ k w. ⊎-elim (z .below k) (z .above k) w;
-          local-kept = refl;
-        }
-
-  -- one is not
-  module _ (d : bothFields main a b n ≡ false) where
-    spot : Spots n a b main local (start a b n c)
-    spot = spots n a b main local (start a b n c) c entry d
-
-    bad-run : runFor main local a b n c ≡ ended Stopped (spot .x) (2 + untilBad main a b n) main local
-    bad-run = run-is (2 + untilBad main a b n) (machine (spot .x) main local) (spot .goes) (spot .stops) (omega (arith, until-le main n a b))
-
-    not-summed : eqb (spot .x .wx) 0x14 ≡ false
-    not-summed = ⊎-elim (λ e. rw e) (λ e. rw e) (spot .place)
-
-    bad-promise : Bad main local a b n (answeredAt (record { ending = Stopped; state = spot .x; count = 2 + untilBad main a b n })) main local
-    bad-promise = record { bad = rw not-summed; main-kept = refl; local-kept = refl }
-
--- ---- the entry
-
-never-refused : (f : Finished) (number : ℕ) → answeredAt f ≡ Refused number → ⊥
-never-refused f number = by (eqb (f .state .wx) 0x14)
+never-refused : (done : ℕ) (f : Finished) (number : ℕ) → answeredAt done f ≡ Refused number → ⊥
+never-refused done f number = by (eqb (f .state .wx) done)
   where
     by : (t : Bool) → cond t (Summed (bit (f .state .s) 3) (f .count)) (BadDigit (f .count)) ≡ Refused number → ⊥
     by true e = zero-one cc
     by false e = zero-one cc
 
-module _ (main local : List ℕ) (a b n : ℕ) (c : Bool) where
+count-in : (done : ℕ) (f : Finished) → cyclesIn (answeredAt done f) ≡ f .count
+count-in done f = by (eqb (f .state .wx) done)
+  where
+    by : (t : Bool) → cyclesIn (cond t (Summed (bit (f .state .s) 3) (f .count)) (BadDigit (f .count))) ≡ f .count
+    by true = refl
+    by false = refl
+
+module _ (done : ℕ) (run : Outcome Finished) (main local : List ℕ) (a b n : ℕ) where
   abbrev checks : List Check
   checks = addChecks (length main) (length local) a b n
 
-  abbrev refusal : ℕ → Outcome Added
-  refusal number = outcome (Refused number) main local
-
   abbrev comes : ℕ → Outcome Added
-  comes k = answer k refusal (fromRun (runFor main local a b n c))
+  comes k = answer k (λ (number : ℕ). outcome (Refused number) main local) (fromRun done run)
 
-  the-answer : (k : ℕ) → comes k .answer ≡ answer k Refused (answeredAt (runFor main local a b n c .answer))
+  the-answer : (k : ℕ) → comes k .answer ≡ answer k Refused (answeredAt done (run .answer))
   the-answer zero = refl
   the-answer (suc k) = refl
 
   refused-exactly : (number : ℕ) → (comes (first checks) .answer ≡ Refused number) ↔ Given number checks
   refused-exactly number =
-      let e = exactly (record { number = λ m k p. cc; apart = never-refused }) (runFor main local a b n c .answer) checks tt number in
+      let e = exactly (record { number = λ m k p. cc; apart = never-refused done }) (run .answer) checks tt number in
       (λ p. e .0 (sym (the-answer (first checks)) ∙ p), λ g. the-answer (first checks) ∙ e .1 g)
 
   refused-untouched : (k number : ℕ) → comes k .answer ≡ Refused number → Untouched main local (comes k .main) (comes k .local)
-  refused-untouched zero number e = absurd (never-refused (runFor main local a b n c .answer) number e)
+  refused-untouched zero number e = absurd (never-refused done (run .answer) number e)
   refused-untouched (suc k) number e = record { main-kept = refl; local-kept = refl }
 
-  module _ (e : first checks ≡ 0) where
-    fit : Fit (length main) (length local) a b n
-    fit = checked (length main) (length local) a b n e
+  finished : (P : Added → List ℕ → List ℕ → Type 0) → first checks ≡ 0 → Finishes done run n P → let o = comes (first checks) in P (o .answer) (o .main) (o .local)
+  finished P e f =
+      subst (λ (o : Outcome Added). P (o .answer) (o .main) (o .local)) (ap (fromRun done) (sym (f .is)) ∙ ap comes (sym e)) (f .holds)
 
-    as-run : (r : Outcome Finished) → runFor main local a b n c ≡ r → fromRun r ≡ comes (first checks)
-    as-run r p = ap fromRun (sym p) ∙ ap comes (sym e)
+  few : (k : ℕ) → first checks ≡ k → (first checks ≡ 0 → run .answer .count ≤ bound n) → cyclesIn (comes (first checks) .answer) ≤ bound n
+  few zero e h = rw (e, count-in done (run .answer)) (h e)
+  few (suc k) e h = rw e (omega arith)
 
-    the-sums : bothFields main a b n ≡ true → let o = comes (first checks) in Sums main local a b n c (o .answer) (o .main) (o .local)
-    the-sums d =
-        subst (λ (o : Outcome Added). Sums main local a b n c (o .answer) (o .main) (o .local)) (as-run _ (sum-run main local a b n c fit d))
-        (sum-promise main local a b n c fit d)
-
-    the-bad : bothFields main a b n ≡ false → let o = comes (first checks) in Bad main local a b n (o .answer) (o .main) (o .local)
-    the-bad d =
-        subst (λ (o : Outcome Added). Bad main local a b n (o .answer) (o .main) (o .local)) (as-run _ (bad-run main local a b n c fit d))
-        (bad-promise main local a b n c fit d)
-
-    stops-always : runFor main local a b n c .answer .ending ≡ Stopped
-    stops-always = by (bothFields main a b n) refl
+  module _ (good : Bool) (Good Bad : Added → List ℕ → List ℕ → Type 0) (sums : Accepted main local a b n → good ≡ true → Finishes done run n Good)
+      (bad : Accepted main local a b n → good ≡ false → Finishes done run n Bad) where
+    -- of the run, whichever way it ends
+    either-end : (P : Finished → Type 0) → ((x : State) (count : ℕ) → count ≤ bound n → P (record { ending = Stopped; state = x; count = count })) → Accepted main local a b n → P (run .answer)
+    either-end P h e = by good refl
       where
-        by : (d : Bool) → bothFields main a b n ≡ d → runFor main local a b n c .answer .ending ≡ Stopped
-        by true d = ap (λ (r : Outcome Finished). r .answer .ending) (sum-run main local a b n c fit d)
-        by false d = ap (λ (r : Outcome Finished). r .answer .ending) (bad-run main local a b n c fit d)
+        of : {Q : Added → List ℕ → List ℕ → Type 0} → Finishes done run n Q → P (run .answer)
+        of f = subst (λ (r : Outcome Finished). P (r .answer)) (sym (f .is)) (h (f .x) (f .count) (f .few))
 
-    run-few : cyclesIn (comes (first checks) .answer) ≤ bound n
-    run-few = by (bothFields main a b n) refl
-      where
-        by : (d : Bool) → bothFields main a b n ≡ d → cyclesIn (comes (first checks) .answer) ≤ bound n
-        by true d = rw (the-sums d .summed) (omega arith)
-        by false d = rw (the-bad d .bad) (omega (arith, until-le main n a b))
+        by : (g : Bool) → good ≡ g → P (run .answer)
+        by true g = of (sums e g)
+        by false g = of (bad e g)
 
-  few : (k : ℕ) → first checks ≡ k → cyclesIn (comes (first checks) .answer) ≤ bound n
-  few zero e = run-few e
-  few (suc k) e = rw e (omega arith)
+    pub keeps : let o = entryOf done run main local a b n in Keeps run good Good Bad main local a b n (o .answer) (o .main) (o .local)
+    keeps =
+        record {
+          refused = refused-exactly;
+          untouched = refused-untouched (first checks);
+          sums = λ e g. finished Good e (sums e g);
+          bad = λ e g. finished Bad e (bad e g);
+          stops = either-end (λ (f : Finished). f .ending ≡ Stopped) (λ x k less. refl);
+          few = few (first checks) refl (either-end (λ (f : Finished). f .count ≤ bound n) (λ x k less. less));
+        }
 
-  pub kept : let o = addOf main local a b n c in Promise main local a b n c (o .answer) (o .main) (o .local)
-  unfolding addOf
-  kept =
+  -- for the code: what it answers is the entry's answer
+  pub refuses : (k : ℕ) → k ≡ first checks → (k ≡ 0 → ⊥) → outcome (Refused k) main local ≡ entryOf done run main local a b n
+  refuses k e h = sym (R.refuses (λ (number : ℕ). outcome (Refused number) main local) (fromRun done run) k h) ∙ ap comes e
+
+  pub accepts : first checks ≡ 0 → fromRun done run ≡ entryOf done run main local a b n
+  accepts e = ap comes (sym e)
+
+pub from-run : (done : ℕ) (f : Finished) (m l : List ℕ) (r : Outcome Finished) {x : Added} → x ≡ answeredAt done f → outcome f m l ≡ r → outcome x m l ≡ fromRun done r
+from-run done f m l r e p = ap (λ (y : Added). outcome y m l) e ∙ ap (fromRun done) p
+
+-- a program that comes to its stop, or to another
+module _ (store main local : List ℕ) (s : State) (n done count : ℕ) (right : Right store (machine s main local)) (size : n ≤ 16) (less : count < bound n) where
+  abbrev its-run : Outcome Finished
+  its-run = runOf (bound n) store main local s
+
+  pub comes-to : (q : Place) → q .wx ≡ done → Reaches store local count (machine s main local) q → ((x : State) → Right store (machine x (q .main) local) → Halts store (machine (idle (q .wx) x) (q .main) local))
+      → (P : Added → List ℕ → List ℕ → Type 0) → ((x : State) → q .Known x → P (Summed (bit (x .s) 3) count) (q .main) local) → Finishes done its-run n P
+  comes-to q e r halts P h =
       record {
-        refused = refused-exactly;
-        untouched = refused-untouched (first checks);
-        sums = the-sums;
-        bad = the-bad;
-        stops = stops-always;
-        few = few (first checks) refl;
+        x = idle (q .wx) (r .x);
+        count = count;
+        main′ = q .main;
+        local′ = local;
+        is = run-stops store (bound n) count s main local (machine (idle (q .wx) (r .x)) (q .main) local) right (omega (arith, size)) (r .goes) (halts (r .x) (goes-right (r .goes) right)) less;
+        few = omega (arith, less);
+        holds = subst (λ (t : Bool). P (cond t (Summed (bit (r .x .s) 3) count) (BadDigit count)) (q .main) local) (sym (eq-eqb (q .wx) done e)) (h (r .x) (r .known));
       }
 
--- ---- for the code: what it answers is the entry's answer, and so it keeps the promise
+  pub stops-short : Refuses store local done count (machine s main local) main → Finishes done its-run n (Bad count main local)
+  stops-short r =
+      record {
+        x = r .x;
+        count = count;
+        main′ = main;
+        local′ = local;
+        is = run-stops store (bound n) count s main local (machine (r .x) main local) right (omega (arith, size)) (r .goes) (r .stops) less;
+        few = omega (arith, less);
+        holds = record { bad = rw (r .apart); main-kept = refl; local-kept = refl };
+      }
 
-pub from-run : (f : Finished) (m l : List ℕ) (r : Outcome Finished) {x : Added} → x ≡ answeredAt f → outcome f m l ≡ r → outcome x m l ≡ fromRun r
-from-run f m l r e p = ap (λ (y : Added). outcome y m l) e ∙ ap fromRun p
+-- ---- the decimal entry
 
-module _ (main local : List ℕ) (a b n : ℕ) (c : Bool) where
-  pub refuses : (k : ℕ) → k ≡ first (addChecks (length main) (length local) a b n) → (k ≡ 0 → ⊥) → outcome (Refused k) main local ≡ addOf main local a b n c
-  unfolding addOf
-  refuses k e h = sym (R.refuses (refusal main local a b n c) (fromRun (runFor main local a b n c)) k h) ∙ ap (comes main local a b n c) e
+module _ (main local : List ℕ) (a b k : ℕ) (c : Bool) (f : Fit (length main) (length local) a b (suc k)) where
+  sums-end : bothFields main a b (suc k) ≡ true → Finishes SUMMED (runFor main local a b (suc k) c) (suc k) (Sums main local a b (suc k) c)
+  sums-end d =
+      let (da, db) = both (decimalField main a (suc k)) (decimalField main b (suc k)) d in
+      let end : Passing = at-end main local a b k c f da db in
+      let st = sum-stands main local a b k c f da db in
+      let v = value-lt (end .main) a (suc k) (st .digits) in
+      let is : value (end .main) a (suc k) + 100 ^ suc k * one (end .carry) ≡ exactSum main a b (suc k) c = omega (arith, st .sum) in
+      comes-to shipped main local (start a b (suc k) c) (suc k) SUMMED (14 * suc k + 4) (right main local a b k c f) (f .few) (omega arith) (P.ended SUMMED (end .main) (end .carry)) refl (adds main local a b k c f da db) (stop-14 local (end .main))
+      (Sums main local a b (suc k) c)
+      (λ x carry.
+      record {
+        out = end .carry;
+        summed = ap (λ (on : Bool). Summed on (14 * suc k + 4)) carry;
+        remainder = remainder (value (end .main) a (suc k)) (100 ^ suc k) (exactSum main a b (suc k) c) (end .carry) v is;
+        quotient = quotient (value (end .main) a (suc k)) (100 ^ suc k) (exactSum main a b (suc k) c) (end .carry) v is;
+        decimal = sound-field (end .main) a (suc k) (st .digits);
+        size = st .size;
+        others = st .others;
+        local-kept = refl;
+      })
 
-  pub accepts : first (addChecks (length main) (length local) a b n) ≡ 0 → fromRun (runFor main local a b n c) ≡ addOf main local a b n c
-  unfolding addOf
-  accepts e = ap (comes main local a b n c) (sym e)
+  bad-end : bothFields main a b (suc k) ≡ false → Finishes SUMMED (runFor main local a b (suc k) c) (suc k) (Bad (2 + untilBad main a b (suc k)) main local)
+  bad-end d =
+      stops-short shipped main local (start a b (suc k) c) (suc k) SUMMED (2 + untilBad main a b (suc k)) (right main local a b k c f) (f .few) (omega (arith, until-le main (suc k) a b)) (spots main local a b k c f d)
 
-  pub with-promise : (r : Added) (m l : List ℕ) → outcome r m l ≡ addOf main local a b n c → (outcome r m l ≡ addOf main local a b n c) × Promise main local a b n c r m l
-  with-promise r m l e = (e, subst (λ (o : Outcome Added). Promise main local a b n c (o .answer) (o .main) (o .local)) (sym e) (kept main local a b n c))
+pub kept : (main local : List ℕ) (a b n : ℕ) (c : Bool) → let o = addOf main local a b n c in Promise main local a b n c (o .answer) (o .main) (o .local)
+unfolding addOf
+kept main local a b zero c =
+    keeps SUMMED (runFor main local a b 0 c) main local a b 0 (bothFields main a b 0) (Sums main local a b 0 c) (Bad (2 + untilBad main a b 0) main local)
+    (λ e d. absurd (no-bytes e)) (λ e d. absurd (no-bytes e))
+  where
+    no-bytes : Accepted main local a b 0 → ⊥
+    no-bytes e = omega (arith, checked (length main) (length local) a b 0 e .some)
+kept main local a b (suc k) c =
+    keeps SUMMED (runFor main local a b (suc k) c) main local a b (suc k) (bothFields main a b (suc k)) (Sums main local a b (suc k) c) (Bad (2 + untilBad main a b (suc k)) main local)
+    (λ e. sums-end main local a b k c (checked (length main) (length local) a b (suc k) e)) (λ e. bad-end main local a b k c (checked (length main) (length local) a b (suc k) e))
+
+pub with-promise : (main local : List ℕ) (a b n : ℕ) (c : Bool) (r : Added) (m l : List ℕ) → outcome r m l ≡ addOf main local a b n c
+    → (outcome r m l ≡ addOf main local a b n c) × Promise main local a b n c r m l
+with-promise main local a b n c r m l e = (e, subst (λ (o : Outcome Added). Promise main local a b n c (o .answer) (o .main) (o .local)) (sym e) (kept main local a b n c))

@@ -1,10 +1,12 @@
 pub mod Steps
-pub mod Packed
+pub mod Places
 pub mod Pairs
 pub mod Pass1
 pub mod Pass2
 pub mod Fields
+pub mod Stands
+pub mod Checks
+pub mod Plain
 pub mod Whole
 pub mod Kept
-pub mod Checks
 pub mod Promises

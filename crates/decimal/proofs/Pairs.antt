@@ -1,64 +1,116 @@
--- Sums of bytes: a pair of registers as one address, and a count. Assumes nothing.
-use Prim.Native.Nat.{ℕ, _+_, _*_, _%_, _<_, _≤_}
-use mathlib.Core.Path.{_≡_, refl, _∙_}
+-- Sums of bytes: a pair of registers as one address, a count, a carry. Assumes nothing.
+use Prim.Native.Nat.{ℕ, suc, _+_, _*_, _/_, _%_, _<_, _≤_}
+use mathlib.Core.Path.{_≡_, refl, ap, _∙_}
 use mathlib.Core.Bool.{Bool, true, false}
 use native.Mathlib.Omega.{arith}
 use lib.Dec.{eqb}
-use borrow.Author.Tests.{eq-eqb, ne-eqb}
+use lib.ListN.{length}
+use borrow.Author.Tests.{lt-leb, ne-eqb}
+use lib.Dec.{leb}
 use Rattle.digits.specs.Bits.{one, bit, withBit}
-use Rattle.digits.proofs.Bits.{one-lt, bit-other}
+use Rattle.digits.proofs.Bits.{one-lt, bit-with}
 use Rattle.adder.specs.Adder.{arithmetic}
+use Rattle.adder.specs.declared.Sum.{Sum}
 use Rattle.adder.proofs.Laws.{arithmetic-byte, binary-sum}
+use Rattle.decimal.proofs.Places.{halves, carries}
 
 -- the sum of two bytes, and its carry
 sum-is : (a b : ℕ) (carry : Bool) → a < 256 → b < 256 → let z = arithmetic false a b (one carry) in z .result + 256 * one (z .ac) ≡ a + b + one carry
 sum-is a b carry ab bb = binary-sum a b (one carry) ab bb (one-lt carry)
 
--- a register less 1, and whether nothing is left
-module _ (t : ℕ) (some : 1 ≤ t) (tb : t < 256) where
-  pub one-less : arithmetic false t 255 0 .result + 1 ≡ t
-  one-less = omega (arith, arithmetic-byte false t 255 0, sum-is t 255 false tb (omega arith), one-lt (arithmetic false t 255 0 .ac))
-
-  zero-test : arithmetic false t 255 0 .z0 ≡ eqb (arithmetic false t 255 0 .result) 0
-  unfolding arithmetic
-  zero-test = refl
-
-  pub some-left : 2 ≤ t → arithmetic false t 255 0 .z0 ≡ false
-  some-left h = zero-test ∙ ne-eqb (arithmetic false t 255 0 .result) 0 (λ e. omega (arith, one-less, e))
-
-  pub none-left : t ≡ 1 → arithmetic false t 255 0 .z0 ≡ true
-  none-left h = zero-test ∙ eq-eqb (arithmetic false t 255 0 .result) 0 (omega (arith, one-less))
-
--- the sum of a byte and 0
-pub same : (a : ℕ) → a < 256 → arithmetic false a 0 0 .result ≡ a
-same a h = omega (arith, arithmetic-byte false a 0 0, sum-is a 0 false h (omega arith), one-lt (arithmetic false a 0 0 .ac))
-
--- a carry as a byte, and back
-pub carry-byte : (carry : Bool) → arithmetic false 0 0 (one carry) .result ≡ one carry
-unfolding arithmetic
-carry-byte true = refl
-carry-byte false = refl
-
-pub byte-carry : (carry : Bool) → arithmetic false (one carry) 255 0 .ac ≡ carry
-unfolding arithmetic
-byte-carry true = refl
-byte-carry false = refl
-
--- the two bytes of an address, k and a carry added to each, the low one's carry going into the high one
-pub moved : (high low k m : ℕ) (c : Bool) → high < 256 → low < 256 → k < 256 → 257 * k + one c ≡ m
-    → let l = arithmetic false low k (one c) in arithmetic false high k (one (l .ac)) .result * 256 + l .result ≡ (high * 256 + low + m) % 65536
-moved high low k m c hb lb kb e =
-    let d = arithmetic false low k (one c) .ac in
+-- two bytes and two more, the low sum's carry going into the high one
+pair-sum : (high low k j : ℕ) (c : Bool) → high < 256 → low < 256 → k < 256 → j < 256
+    → let l = arithmetic false low j (one c) in arithmetic false high k (one (l .ac)) .result * 256 + l .result ≡ (high * 256 + low + (k * 256 + j + one c)) % 65536
+pair-sum high low k j c hb lb kb jb =
+    let d = arithmetic false low j (one c) .ac in
     omega (
       arith,
-      sum-is low k c lb kb,
-      arithmetic-byte false low k (one c),
+      sum-is low j c lb jb,
+      arithmetic-byte false low j (one c),
       sum-is high k d hb kb,
       arithmetic-byte false high k (one d),
       one-lt d,
       one-lt (arithmetic false high k (one d) .ac),
     )
 
--- S3 changed leaves S0
-pub s0-kept : (s : ℕ) (on : Bool) → bit (withBit s 3 on) 0 ≡ bit s 0
-s0-kept s on = bit-other s 3 on 0 (omega arith) (omega arith) (λ e. omega arith)
+-- j to the low register of an address, and k to its high one by way of S3
+abbrev pub lowSum : ℕ → ℕ → Bool → Sum
+lowSum a j c = arithmetic false (a % 256) j (one c)
+
+abbrev pub highSum : ℕ → ℕ → ℕ → ℕ → Bool → Sum
+highSum s a k j c = arithmetic false (a / 256 % 256) k (one (bit (withBit s 3 (lowSum a j c .ac)) 3))
+
+-- make another address
+moved : (s a k j : ℕ) (c : Bool) → k < 256 → j < 256 → (b : ℕ) → (a + (k * 256 + j + one c)) % 65536 ≡ b % 65536 → (highSum s a k j c .result, lowSum a j c .result) ≡ halves b
+moved s a k j c kb jb b e =
+    let t : highSum s a k j c .result * 256 + lowSum a j c .result ≡ (a / 256 % 256 * 256 + a % 256 + (k * 256 + j + one c)) % 65536 =
+    rw (bit-with s 3 (lowSum a j c .ac)) (pair-sum (a / 256 % 256) (a % 256) k j c (omega arith) (omega arith) kb jb) in
+    halved (highSum s a k j c .result) (lowSum a j c .result) b (arithmetic-byte false (a % 256) j (one c)) (t ∙ registers a (k * 256 + j + one c) ∙ e)
+  where
+    registers : (a m : ℕ) → (a / 256 % 256 * 256 + a % 256 + m) % 65536 ≡ (a + m) % 65536
+    registers a m = omega arith
+
+    halved : (x y b : ℕ) → y < 256 → x * 256 + y ≡ b % 65536 → (x, y) ≡ halves b
+    halved x y b l e =
+        let p : x ≡ b / 256 % 256 = omega arith in
+        let q : y ≡ b % 256 = omega arith in
+        λ i. (p i, q i)
+
+-- one up, one down, and l up
+pub up : (s a : ℕ) → (highSum s a 0 0 true .result, lowSum a 0 true .result) ≡ halves (a + 1)
+up s a = moved s a 0 0 true (omega arith) (omega arith) (a + 1) (omega arith)
+
+pub down : (s a a⁺ : ℕ) → a⁺ ≡ a + 1 → (highSum s a⁺ 255 255 false .result, lowSum a⁺ 255 false .result) ≡ halves a
+down s a a⁺ e = moved s a⁺ 255 255 false (omega arith) (omega arith) a (omega arith)
+
+pub along : (s a l : ℕ) → l < 256 → (highSum s a 0 l false .result, lowSum a l false .result) ≡ halves (a + l)
+along s a l small = moved s a 0 l false (omega arith) small (a + l) (omega arith)
+
+-- the address that two registers hold
+abbrev pub held : ℕ → ℕ
+held a = a / 256 % 256 * 256 + a % 256
+
+-- one inside main storage
+module _ (a size : ℕ) (inside : a < size) (fits : size ≤ 65536) where
+  pub address : held a ≡ a
+  address = omega arith
+
+  pub within : leb size (held a) ≡ false
+  within = lt-leb size (held a) (omega arith)
+
+-- the registers of an address
+pub starts : (a : ℕ) → a < 65536 → (a / 256, a % 256) ≡ halves a
+starts a h = let e : a / 256 ≡ a / 256 % 256 = omega arith in λ i. (e i, a % 256)
+
+-- a register less 1, and whether nothing is left
+module _ (k : ℕ) (small : k < 255) where
+  pub one-less : arithmetic false (suc k) 255 0 .result ≡ k
+  one-less = omega (arith, arithmetic-byte false (suc k) 255 0, sum-is (suc k) 255 false (omega arith) (omega arith), one-lt (arithmetic false (suc k) 255 0 .ac))
+
+  pub none-left : arithmetic false (suc k) 255 0 .z0 ≡ eqb k 0
+  unfolding arithmetic
+  none-left = ap (λ (n : ℕ). eqb n 0) one-less
+
+pub some-left : (k : ℕ) → eqb (suc k) 0 ≡ false
+some-left k = ne-eqb (suc k) 0 (λ e. omega arith)
+
+-- and one more
+pub one-more : (k : ℕ) → k < 255 → arithmetic false k 0 1 .result ≡ suc k
+one-more k small = omega (arith, arithmetic-byte false k 0 1, sum-is k 0 true (omega arith) (omega arith), one-lt (arithmetic false k 0 1 .ac))
+
+-- the sum of a byte and 0
+pub same : (a : ℕ) → a < 256 → arithmetic false a 0 0 .result ≡ a
+same a h = omega (arith, arithmetic-byte false a 0 0, sum-is a 0 false h (omega arith), one-lt (arithmetic false a 0 0 .ac))
+
+-- two bytes copied
+pub copied : (u v : ℕ) → u < 256 → v < 256 → _≡_ {A = ℕ × ℕ} (arithmetic false u 0 0 .result, arithmetic false v 0 0 .result) (u, v)
+copied u v hu hv = λ i. (same u hu i, same v hv i)
+
+-- a carry put into H from S3
+pub kept-carry : (s : ℕ) (c : Bool) → carries (arithmetic false 0 0 (one (bit (withBit s 3 c) 3)) .result) ≡ c
+unfolding arithmetic
+kept-carry s c = ap (λ (b : Bool). carries (arithmetic false 0 0 (one b) .result)) (bit-with s 3 c) ∙ by c
+  where
+    by : (c : Bool) → carries (arithmetic false 0 0 (one c) .result) ≡ c
+    by true = refl
+    by false = refl

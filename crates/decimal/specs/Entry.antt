@@ -33,9 +33,9 @@ addChecks main local a b n =
     (1, storageWrong main local) ∷ (12, decimalLengthWrong n) ∷ (13, pastEnd main a n || pastEnd main b n) ∷ (14, overlap a b n) ∷ []
 
 -- "from WX 0 with latches off, nothing arriving, main selected, and all registers zero but those that carry addresses, length and carry":
--- the first field's start in I and J, the second's in U and V, the length in L, the carry in S3
-abbrev pub start : ℕ → ℕ → ℕ → Bool → State
-start a b n carry =
+-- the first field's start in I and J, the second's in U and V, the length in L, and this in S
+abbrev pub startWith : ℕ → ℕ → ℕ → ℕ → State
+startWith a b n status =
     record {
       i = a / 256;
       j = a % 256;
@@ -45,7 +45,7 @@ start a b n carry =
       t = 0;
       d = 0;
       r = 0;
-      s = withBit 0 3 carry;
+      s = status;
       g = 0;
       h = 0;
       m = 0;
@@ -60,6 +60,10 @@ start a b n carry =
       «arriving_byte» = 0;
     }
 
+-- the carry in S3
+abbrev pub start : ℕ → ℕ → ℕ → Bool → State
+start a b n carry = startWith a b n (withBit 0 3 carry)
+
 -- "40 cycles for each byte of that length, and 40 more"
 abbrev pub bound : ℕ → ℕ
 bound n = 40 * n + 40
@@ -68,15 +72,23 @@ bound n = 40 * n + 40
 abbrev pub runFor : List ℕ → List ℕ → ℕ → ℕ → ℕ → Bool → Outcome Finished
 runFor main local a b n carry = runOf (bound n) shipped main local (start a b n carry)
 
--- "it answers summed with the carry from S3, or bad digit, by the word it stopped at"
-abbrev pub answeredAt : Finished → Added
-answeredAt f = cond (eqb (f .state .wx) 0x14) (Summed (bit (f .state .s) 3) (f .count)) (BadDigit (f .count))
+-- "it answers summed with the carry from S3, or bad digit, by the word it stopped at": summed at this one
+abbrev pub answeredAt : ℕ → Finished → Added
+answeredAt done f = cond (eqb (f .state .wx) done) (Summed (bit (f .state .s) 3) (f .count)) (BadDigit (f .count))
 
 -- "Its storage and cycle count are that run's"
-abbrev pub fromRun : Outcome Finished → Outcome Added
-fromRun r = outcome (answeredAt (r .answer)) (r .main) (r .local)
+abbrev pub fromRun : ℕ → Outcome Finished → Outcome Added
+fromRun done r = outcome (answeredAt done (r .answer)) (r .main) (r .local)
 
--- the entry: refused, nothing is touched
+-- an entry, by its run: refused, nothing is touched
+abbrev pub entryOf : ℕ → Outcome Finished → List ℕ → List ℕ → ℕ → ℕ → ℕ → Outcome Added
+entryOf done run main local a b n =
+    answer (first (addChecks (length main) (length local) a b n)) (λ (number : ℕ). outcome (Refused number) main local) (fromRun done run)
+
+-- the shipped words' stop for summed
+abbrev pub SUMMED : ℕ
+SUMMED = 0x14
+
+-- the decimal entry
 unfoldable pub addOf : List ℕ → List ℕ → ℕ → ℕ → ℕ → Bool → Outcome Added
-addOf main local a b n carry =
-    answer (first (addChecks (length main) (length local) a b n)) (λ (number : ℕ). outcome (Refused number) main local) (fromRun (runFor main local a b n carry))
+addOf main local a b n carry = entryOf SUMMED (runFor main local a b n carry) main local a b n

@@ -8,7 +8,9 @@ use lib.ListN.{length, getD}
 use Rattle.digits.specs.Bits.{one}
 use Rattle.digits.specs.Digits.{bothDecimal}
 use Rattle.digits.specs.Refusal.{first, Given}
+use Rattle.machine.specs.Cycle.{Outcome}
 use Rattle.run.specs.declared.Ending.the-variants.{Stopped}
+use Rattle.run.specs.declared.Finished.{Finished}
 use Rattle.decimal.specs.Value.{value, decimalField}
 use Rattle.decimal.specs.Entry.{addChecks, bound, runFor}
 use Rattle.decimal.specs.declared.Added.{Added}
@@ -46,8 +48,8 @@ pub record Sums (main local : List ℕ) (a b n : ℕ) (carry : Bool) (r : Added)
   pub local-kept : local′ ≡ local
 
 -- if any digit is not: bad digit, with the exact count, and all storage as before
-pub record Bad (main local : List ℕ) (a b n : ℕ) (r : Added) (main′ local′ : List ℕ) : Type 0 where
-  pub bad : r ≡ BadDigit (2 + untilBad main a b n)
+pub record Bad (count : ℕ) (main local : List ℕ) (r : Added) (main′ local′ : List ℕ) : Type 0 where
+  pub bad : r ≡ BadDigit count
   pub main-kept : main′ ≡ main
   pub local-kept : local′ ≡ local
 
@@ -64,15 +66,20 @@ bothFields main a b n = decimalField main a n && decimalField main b n
 abbrev pub Accepted : List ℕ → List ℕ → ℕ → ℕ → ℕ → Type 0
 Accepted main local a b n = first (addChecks (length main) (length local) a b n) ≡ 0
 
--- a and b are the fields' starts, n their length, r the answer, main′ and local′ the storages afterwards
-pub record Promise (main local : List ℕ) (a b n : ℕ) (carry : Bool) (r : Added) (main′ local′ : List ℕ) : Type 0 where
+-- what an entry promises, whatever its words: a and b are the fields' starts, n their length, r the answer, main′ and local′ the storages afterwards;
+-- by its run, whether both fields are good, and what it then leaves
+pub record Keeps (run : Outcome Finished) (good : Bool) (Good Bad : Added → List ℕ → List ℕ → Type 0) (main local : List ℕ) (a b n : ℕ) (r : Added) (main′ local′ : List ℕ) : Type 0 where
   -- each number is given exactly when the list of checks gives it, and then nothing is touched
   pub refused : (number : ℕ) → (r ≡ Refused number) ↔ Given number (addChecks (length main) (length local) a b n)
   pub untouched : (number : ℕ) → r ≡ Refused number → Untouched main local main′ local′
   -- accepted, it comes to one of two ends
-  pub sums : Accepted main local a b n → bothFields main a b n ≡ true → Sums main local a b n carry r main′ local′
-  pub bad : Accepted main local a b n → bothFields main a b n ≡ false → Bad main local a b n r main′ local′
+  pub sums : Accepted main local a b n → good ≡ true → Good r main′ local′
+  pub bad : Accepted main local a b n → good ≡ false → Bad r main′ local′
   -- it stops in every case: budget spent cannot be the answer
-  pub stops : Accepted main local a b n → runFor main local a b n carry .answer .ending ≡ Stopped
+  pub stops : Accepted main local a b n → run .answer .ending ≡ Stopped
   -- at most 40 cycles a byte and 40 more
   pub few : cyclesIn r ≤ bound n
+
+abbrev pub Promise : List ℕ → List ℕ → ℕ → ℕ → ℕ → Bool → Added → List ℕ → List ℕ → Type 0
+Promise main local a b n carry r main′ local′ =
+    Keeps (runFor main local a b n carry) (bothFields main a b n) (Sums main local a b n carry) (Bad (2 + untilBad main a b n) main local) main local a b n r main′ local′

@@ -5,7 +5,8 @@ ghost use lib.ListN.{length};
 ghost use Rattle.digits.specs.Refusal.{first};
 ghost use Rattle.machine.specs.Cycle.{outcome};
 ghost use Rattle.decimal.specs.Program.{shipped};
-ghost use Rattle.decimal.specs.Entry.{pastEnd, overlap, addChecks, start, answeredAt, fromRun, runFor, addOf};
+ghost use Rattle.run.specs.Run.{runOf};
+ghost use Rattle.decimal.specs.Entry.{pastEnd, overlap, addChecks, startWith, start, bound, answeredAt, fromRun, addOf};
 ghost use Rattle.decimal.specs.Promise.{Promise};
 use machine::State;
 use run::Finished;
@@ -16,6 +17,9 @@ pub enum Added {
     BadDigit(u32),
     Refused(u8),
 }
+
+// The shipped words' stop for summed.
+pub const SUMMED: u16 = 0x14;
 
 // The words as packed. What each is for stands in specs/Program.antt.
 const WORDS: [u64; 21] = [
@@ -74,7 +78,7 @@ fn overlap(a: usize, b: usize, length: usize) -> bool
 }
 
 // 1, 12, 13, 14, or 0.
-fn refusal(main: usize, local: usize, a: usize, b: usize, length: usize) -> u8
+pub fn refusal(main: usize, local: usize, a: usize, b: usize, length: usize) -> u8
     ensures { λ r. ⌜ r ≡ first (addChecks main local a b length) ⌝ }
 {
     let fourteen = digits::first_of(overlap(a, b, length), 14, 0);
@@ -84,9 +88,9 @@ fn refusal(main: usize, local: usize, a: usize, b: usize, length: usize) -> u8
     digits::first_of(digits::storage_wrong(main, local), 1, twelve)
 }
 
-// The state in which the program begins.
-pub fn start(a: u16, b: u16, length: u8, carry: bool) -> State
-    ensures { λ r. ⌜ r ≡ start a b length carry ⌝ }
+// The state in which a program over two fields begins.
+pub fn start_with(a: u16, b: u16, length: u8, status: u8) -> State
+    ensures { λ r. ⌜ r ≡ startWith a b length status ⌝ }
 {
     State {
         i: (a / 256) as u8,
@@ -97,7 +101,7 @@ pub fn start(a: u16, b: u16, length: u8, carry: bool) -> State
         t: 0,
         d: 0,
         r: 0,
-        s: digits::with_bit(0, 3, carry),
+        s: status,
         g: 0,
         h: 0,
         m: 0,
@@ -113,25 +117,38 @@ pub fn start(a: u16, b: u16, length: u8, carry: bool) -> State
     }
 }
 
-// What a run of the shipped words answers, by the word it stopped at.
-pub fn answered_at(f: Finished) -> Added
-    ensures { λ r. ⌜ r ≡ answeredAt f ⌝ }
+// That of the shipped words: the carry in S3.
+pub fn start(a: u16, b: u16, length: u8, carry: bool) -> State
+    ensures { λ r. ⌜ r ≡ start a b length carry ⌝ }
+{
+    start_with(a, b, length, digits::with_bit(0, 3, carry))
+}
+
+// What a run of a program's words answers: summed where it stopped at this one, else a bad digit.
+pub fn answered_at(f: Finished, done: u16) -> Added
+    ensures { λ r. ⌜ r ≡ answeredAt done f ⌝ }
 {
     let count = f.count;
-    if f.state.wx == 0x14 {
+    if f.state.wx == done {
         return Added::Summed(digits::bit(f.state.s, 3), count);
     }
     Added::BadDigit(count)
 }
 
-fn run_words(main: &mut [u8], local: &mut [u8], a: u16, b: u16, length: u8, carry: bool) -> Added
-    requires { ⌜ length ≤ 16 ⌝ }
-    ensures { λ r. ⌜ outcome r (now (main .exit)) (now (local .exit)) ≡ fromRun (runFor (now (main .entry)) (now (local .entry)) a b length carry) ⌝ }
+// Runs a program's words over fields of so many bytes.
+pub fn run_words(
+    store: &[u64],
+    main: &mut [u8],
+    local: &mut [u8],
+    state: State,
+    length: u8,
+    done: u16,
+) -> Added
+    ensures { λ r. ⌜ outcome r (now (main .exit)) (now (local .exit)) ≡ fromRun done (runOf (bound length) (now (store .entry)) (now (main .entry)) (now (local .entry)) state) ⌝ }
 {
-    let store = words();
     let budget = 40 * (length as u32) + 40;
-    let finished = run::run(&store, main, local, start(a, b, length, carry), budget);
-    answered_at(finished)
+    let finished = run::run(store, main, local, state, budget);
+    answered_at(finished, done)
 }
 
 // The first field becomes the sum of both, with the carry. Storage and count are those of the run of the shipped words.
@@ -150,12 +167,8 @@ pub fn add(
     if number != 0 {
         return Added::Refused(number);
     }
-    run_words(
-        main,
-        local,
-        first as u16,
-        second as u16,
-        length as u8,
-        carry,
-    )
+    let store = words();
+    let bytes = length as u8;
+    let state = start(first as u16, second as u16, bytes, carry);
+    run_words(&store, main, local, state, bytes, SUMMED)
 }

@@ -1,11 +1,11 @@
 -- The laws of a copy, element by element. Assumes nothing.
-use Prim.Native.Nat.{ℕ, suc, _+_, _<_, _≤_}
+use Prim.Native.Nat.{ℕ, suc, _+_, _-_, _<_, _≤_}
 use mathlib.Core.Path.{_≡_, refl, ap, _∙_}
 use mathlib.Core.Bool.{Bool, true, false, _&&_}
 use mathlib.Core.List.{List, _++_, append-nil}
-use native.Mathlib.Nat.{zero-add}
+use native.Mathlib.Nat.{zero-add, add-sub-cancel-left}
 use native.Mathlib.Numerals.{add-one}
-use lib.ListN.{length, getD, set, take, drop, drop-of-length-le}
+use lib.ListN.{length, getD, set, take, drop, length-drop, drop-of-length-le}
 use lib.Dec.{ltb}
 use lib.Seq.{paste-suc, take-all, length-take-le}
 use borrow.Author.Tests.{ltb-true, ltb-false}
@@ -29,6 +29,12 @@ over-full new old h = rw (drop-of-length-le old h) (append-nil new)
 -- and no more
 pub copied-full : (from to : List ℕ) → length to ≡ length from → copied from to ≡ from
 copied-full from to e = copied-all from to (omega arith) ∙ over-full from to (omega arith)
+
+-- into the part of a room that is lent for it
+pub copied-part : (at : ℕ) (new w : List ℕ) {x : List ℕ} → at + length new ≤ length w → x ≡ copied new (take (at + length new - at) (drop at w)) → x ≡ new
+copied-part at new w h e =
+    let k : at + length new - at ≡ length new = add-sub-cancel-left at (length new) in
+    (rw k at e) ∙ copied-full new (take (length new) (drop at w)) (length-take-le (length new) (drop at w) (omega (arith, length-drop at w)))
 
 -- a copy that can go no further is all of it that there is room for
 pub copy-end : (from to : List ℕ) (i : ℕ) → i ≤ length from → i ≤ length to → ltb i (length from) && ltb i (length to) ≡ false → take i from ++ drop i to ≡ copied from to

@@ -1,16 +1,18 @@
 -- Digits in bytes and back, and what the table of signs says of each digit. Assumes nothing.
 use Prim.Native.Nat.{ℕ, zero, suc, _+_, _*_, _<_}
-use mathlib.Core.Path.{_≡_, refl, ap, ap₂}
-use mathlib.Core.Bool.{Bool, true, false, _||_}
+use mathlib.Core.Path.{_≡_, refl, sym, ap, ap₂, _∙_}
+use mathlib.Core.Bool.{Bool, true, false, not, _&&_, _||_}
 use mathlib.Core.List.{List, [], _∷_, _++_}
 use native.Mathlib.Omega.{arith}
-use lib.Dec.{T, eqb, ltb, lit<}
+use borrow.Author.Tests.{ne-eqb}
+use lib.Dec.{eqb, ltb, lit<}
 use lib.IntN.{ℤ, pos, negsuc, natAbs}
-use lib.ListN.{length, getD, replicate}
+use lib.ListN.{length, getD, take, drop, take-append-drop}
+use lib.Seq.{drop-cons, drop-length, length-take-le}
 use Rattle.digits.specs.Digits.{high, low, digits}
-use Rattle.digits.specs.Table.{every}
-use Rattle.digits.specs.Packed.{digitsIn, inBytes, signOf, isMinus, isNone, preferred, signed, belowZero}
-use Rattle.digits.proofs.Table.{Below, at}
+use Rattle.digits.specs.Packed.{digitsIn, inBytes, signOf, isMinus, isNone, preferred, signed, belowZero, sizeIn, signIn, signedBytes}
+use Rattle.digits.proofs.Table.{Below, alike}
+use Rattle.digits.proofs.Tens.{last-tens}
 
 -- ---- digits in bytes
 
@@ -56,29 +58,20 @@ bytes-append k (h ∷ []) ys e = absurd (omega arith)
 bytes-append zero (h ∷ l ∷ xs) ys e = absurd (omega arith)
 bytes-append (suc k) (h ∷ l ∷ xs) ys e = ap (λ (r : List ℕ). digits h l ∷ r) (bytes-append k xs ys (omega arith))
 
+-- one byte more
+pub digits-snoc : (bs : List ℕ) (b : ℕ) → digitsIn (bs ++ (b ∷ [])) ≡ digitsIn bs ++ (high b ∷ low b ∷ [])
+digits-snoc [] b = refl
+digits-snoc (x ∷ bs) b = ap (λ (ds : List ℕ). high x ∷ low x ∷ ds) (digits-snoc bs b)
+
 -- ---- signs
-abbrev same : Bool → Bool → Bool
-same true b = b
-same false true = false
-same false false = true
-
-same-is : (a b : Bool) → T (same a b) → a ≡ b
-same-is true true t = refl
-same-is true false t = absurd t
-same-is false true t = absurd t
-same-is false false t = refl
-
--- two tests that pass for the same of the sixteen digits, which is computed once
-sixteen : (f g : ℕ → Bool) → T (every (λ d x. same (f d) (g d)) 0 (replicate 16 0)) → (d : ℕ) → d < 16 → f d ≡ g d
-sixteen f g t d h = same-is (f d) (g d) (at (λ i x. same (f i) (g i)) (replicate 16 0) t d h)
 
 -- B and D are minus
 pub minus-digits : (d : ℕ) → d < 16 → isMinus (signOf d) ≡ (eqb d 11 || eqb d 13)
-minus-digits d h = sixteen (λ i. isMinus (signOf i)) (λ i. eqb i 11 || eqb i 13) tt d h
+minus-digits d h = alike 16 (λ i. isMinus (signOf i)) (λ i. eqb i 11 || eqb i 13) tt d h
 
 -- a digit below A is no sign, and every other is one
 pub none-digits : (d : ℕ) → d < 16 → isNone (signOf d) ≡ ltb d 10
-none-digits d h = sixteen (λ i. isNone (signOf i)) (λ i. ltb i 10) tt d h
+none-digits d h = alike 16 (λ i. isNone (signOf i)) (λ i. ltb i 10) tt d h
 
 -- the sign that is written is one, and says what it was written for
 pub preferred-is : (minus : Bool) → (isMinus (signOf (preferred minus)) ≡ minus) × (isNone (signOf (preferred minus)) ≡ false) × (preferred minus < 16)
@@ -96,3 +89,24 @@ size-signed false n = refl
 pub signed-size : (z : ℤ) → signed (belowZero z) (natAbs z) ≡ z
 signed-size (pos n) = refl
 signed-size (negsuc n) = refl
+
+pub below-signed : (minus : Bool) (n : ℕ) → belowZero (signed minus n) ≡ not (eqb n 0) && minus
+below-signed true zero = refl
+below-signed true (suc n) = ap (λ (z : Bool). not z && true) (sym (ne-eqb (suc n) 0 (λ e. omega arith)))
+below-signed false zero = refl
+below-signed false (suc n) = ap (λ (z : Bool). not z && false) (sym (ne-eqb (suc n) 0 (λ e. omega arith)))
+
+-- ---- a field of an odd number of digits and a sign
+
+-- is that of its digits and its sign
+pub read-back : (n : ℕ) (field : List ℕ) → length field ≡ suc n → Below 10 (take (2 * n + 1) (digitsIn field))
+    → field ≡ signedBytes (2 * n + 1) (sizeIn (2 * n + 1) field) (signIn (2 * n + 1) field)
+read-back n field e b =
+    let k : ℕ = 2 * n + 1 in
+    let ds : List ℕ = digitsIn field in
+    let all : length ds ≡ suc k = length-digits-in field ∙ rw e (omega arith) in
+    let past : drop (suc k) ds ≡ [] = rw all at (drop-length ds) in
+    let last : drop k ds ≡ signIn k field ∷ [] = drop-cons ds k 0 (omega arith) ∙ ap (λ (l : List ℕ). signIn k field ∷ l) past in
+    sym (bytes-digits field)
+    ∙ ap inBytes (sym (take-append-drop k ds) ∙ ap (λ (l : List ℕ). take k ds ++ l) last)
+    ∙ ap (λ (l : List ℕ). inBytes (l ++ (signIn k field ∷ []))) (sym (last-tens k (take k ds) (length-take-le k ds (omega arith)) b))

@@ -2,10 +2,12 @@
 use Prim.Native.Nat.{ℕ, zero, suc, _+_, _-_, _<_, _≤_}
 use mathlib.Core.Path.{_≡_, refl, sym, ap, subst₂, _∙_}
 use mathlib.Core.List.{List, [], _∷_, _++_, append-assoc, append-nil}
+use native.Mathlib.Nat.{add-sub-cancel-left}
 use native.Mathlib.Omega.{arith}
 use lib.ListN.{length, take, drop, set, length-append, length-drop, length-set, take-append-drop}
 use lib.Seq.{length-take-le, drop-cons, drop-drop, take-append-seam, drop-append-seam, getD-set-same, drop-set-lt}
-use Rattle.digits.specs.Lent.{over, overAt}
+use Rattle.digits.specs.Lent.{over, overAt, copied}
+use Rattle.digits.proofs.Copies.{copied-part}
 
 -- a store in front of what is put: `all` is still to put before it, and `ds` after it
 pub put-before : (ds all out : List ℕ) (i x : ℕ) → 0 < i → i ≤ length out → all ≡ ds ++ (x ∷ []) → ds ++ drop (i - 1) (set out (i - 1) x) ≡ all ++ drop i out
@@ -55,6 +57,12 @@ put-turn {whole} {old} {rest} {w} {at} p new left x k r n e h =
     (sym (append-assoc front new (drop (length front + length new) old))) in
     let at-is = p .place in
     record { front = front ++ new; place = omega arith; split = split; stands = stands; same = ap length stands ∙ length-over (front ++ new) old (omega arith) }
+
+-- the same, where the piece is copied into the part that it fills
+pub put-copy : {whole old rest w : List ℕ} {at : ℕ} → Put whole old rest w at → (new left : List ℕ) {x : List ℕ} → rest ≡ new ++ left → x ≡ copied new (take (at + length new - at) (drop at w)) → length whole ≤ length old
+    → Put whole old left (take at w ++ (x ++ drop (at + length new - at) (drop at w))) (at + length new)
+put-copy {w = w} {at = at} p new left {x} r e h =
+    rw (add-sub-cancel-left at (length new)) (put-turn p new left x (length new) r refl (copied-part at new w (omega (arith, put-room p new left r, p .same, h)) e) h)
 
 -- the same, where the piece is put by itself
 pub put-next : {whole old rest w : List ℕ} {at : ℕ} → Put whole old rest w at → (new left w′ : List ℕ) (at′ : ℕ) → rest ≡ new ++ left → w′ ≡ overAt at new w → at′ ≡ at + length new → length whole ≤ length old

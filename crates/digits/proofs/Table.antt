@@ -1,11 +1,11 @@
 -- A table's rule at each of its entries, from one test that antt computes over the whole table; and what holds of each row. Assumes nothing.
-use mathlib.Core.Path.{_∙_, subst, sym}
-use mathlib.Core.Bool.{Bool}
+use mathlib.Core.Path.{_≡_, refl, _∙_, subst, sym}
+use mathlib.Core.Bool.{Bool, true, false, not}
 use mathlib.Core.List.{List, [], _∷_, _++_}
 use Prim.Native.Nat.{ℕ, zero, suc, _+_, _<_}
 use native.Mathlib.Nat.{add-zero, zero-add, add-suc, suc-add, le-of-suc-le-suc, not-suc-le-zero}
 use lib.Dec.{T}
-use lib.ListN.{length, getD, take, drop, replicate}
+use lib.ListN.{length, getD, take, drop, replicate, length-replicate}
 use mir.Facts.{and-yes}
 use Rattle.digits.specs.Table.{every, Each}
 
@@ -19,6 +19,22 @@ from rule (x ∷ xs) i t (suc k) h =
 -- the rule at the index k
 pub at : (rule : ℕ → ℕ → Bool) (xs : List ℕ) → T (every rule 0 xs) → (k : ℕ) → k < length xs → T (rule k (getD xs k 0))
 at rule xs t k h = subst (λ (m : ℕ). T (rule m (getD xs k 0))) (zero-add k) (from rule xs 0 t k h)
+
+-- ---- two tests
+
+abbrev same : Bool → Bool → Bool
+same true b = b
+same false b = not b
+
+same-is : (a b : Bool) → T (same a b) → a ≡ b
+same-is true true t = refl
+same-is true false t = absurd t
+same-is false true t = absurd t
+same-is false false t = refl
+
+-- that pass for the same of the numbers below n, which is computed once
+pub alike : (n : ℕ) (f g : ℕ → Bool) → T (every (λ i x. same (f i) (g i)) 0 (replicate n 0)) → (i : ℕ) → i < n → f i ≡ g i
+alike n f g t i h = same-is (f i) (g i) (at (λ i x. same (f i) (g i)) (replicate n 0) t i (rw (length-replicate {A = ℕ} n 0) h))
 
 -- ---- what holds of each row
 

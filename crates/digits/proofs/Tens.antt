@@ -2,9 +2,10 @@
 use Prim.Native.Nat.{ℕ, zero, suc, _+_, _*_, _/_, _%_, _^_, _<_}
 use mathlib.Core.Path.{_≡_, refl, sym, ap, subst, _∙_}
 use mathlib.Core.List.{List, [], _∷_, _++_, append-nil, append-assoc}
-use native.Mathlib.Nat.{zero-add, pow-suc, div-lt-iff-lt-mul}
+use native.Mathlib.Nat.{zero-add, pow-suc, mod-lt, mod-eq-of-lt, one-le-pow}
 use native.Mathlib.Numerals.{add-one}
 use native.Mathlib.Omega.{arith}
+use lib.Arith.{mod-mul}
 use lib.Dec.{lit<}
 use lib.ListN.{length, length-append}
 use Rattle.digits.specs.Tens.{lastDigits, tensFrom, tens}
@@ -21,23 +22,22 @@ last-below (suc k) n =
     each-append (λ (x : ℕ). x < 10) (lastDigits k (n / 10)) (n % 10 ∷ []) (last-below k (n / 10)) (d, tt)
 
 -- one digit more, at the low end
-tens-snoc : (m : ℕ) (ds : List ℕ) (d : ℕ) → tensFrom m (ds ++ (d ∷ [])) ≡ tensFrom m ds * 10 + d
+pub tens-snoc : (m : ℕ) (ds : List ℕ) (d : ℕ) → tensFrom m (ds ++ (d ∷ [])) ≡ tensFrom m ds * 10 + d
 tens-snoc m [] d = refl
 tens-snoc m (x ∷ ds) d = tens-snoc (m * 10 + x) ds d
 
--- the last k digits of a number below 10^k write it again
+-- the last k digits of a number write what it leaves of 10^k
+pub tens-mod : (k n : ℕ) → tens (lastDigits k n) ≡ n % 10 ^ k
+tens-mod zero n = omega arith
+tens-mod (suc k) n =
+    tens-snoc 0 (lastDigits k (n / 10)) (n % 10) ∙ rw (tens-mod k (n / 10), pow-suc) (sym (mod-mul n (one-le-pow k 10 (lit< tt)) (lit< tt)))
+
+-- so a number below 10^k again
 pub tens-last : (k n : ℕ) → n < 10 ^ k → tens (lastDigits k n) ≡ n
-tens-last zero n h = omega arith
-tens-last (suc k) n h =
-    let l : n / 10 < 10 ^ k = div-lt-iff-lt-mul (lit< tt) .1 (rw pow-suc at h) in
-    tens-snoc 0 (lastDigits k (n / 10)) (n % 10) ∙ rw (tens-last k (n / 10) l) (omega arith)
+tens-last k n h = tens-mod k n ∙ mod-eq-of-lt h
 
 tens-last-lt : (k n : ℕ) → tens (lastDigits k n) < 10 ^ k
-tens-last-lt zero n = omega arith
-tens-last-lt (suc k) n =
-    let h = tens-last-lt k (n / 10) in
-    let e = tens-snoc 0 (lastDigits k (n / 10)) (n % 10) in
-    rw (e, pow-suc) (omega arith)
+tens-last-lt k n = rw (tens-mod k n) (mod-lt n (one-le-pow k 10 (lit< tt)))
 
 -- digits after those of m
 last-from : (ds : List ℕ) → Below 10 ds → (k m : ℕ) → lastDigits (length ds + k) (tensFrom m ds) ≡ lastDigits k m ++ ds
@@ -58,3 +58,7 @@ last-tens k ds e b = let n : length ds + 0 ≡ k = omega arith in rw n at (last-
 -- and it is below 10^k
 pub tens-lt : (k : ℕ) (ds : List ℕ) → length ds ≡ k → Below 10 ds → tens ds < 10 ^ k
 tens-lt k ds e b = subst (λ (l : List ℕ). tens l < 10 ^ k) (last-tens k ds e b) (tens-last-lt k (tens ds))
+
+-- what a number leaves of 10^k has its last k digits
+pub last-mod : (k n : ℕ) → lastDigits k (n % 10 ^ k) ≡ lastDigits k n
+last-mod k n = ap (lastDigits k) (sym (tens-mod k n)) ∙ last-tens k (lastDigits k n) (length-last k n) (last-below k n)

@@ -1,10 +1,11 @@
 -- Packed fields: digits two to a byte, and a sign in the last place. Assumes nothing.
 use Prim.Native.Nat.{ℕ}
-use mathlib.Core.List.{List, [], _∷_}
+use mathlib.Core.List.{List, [], _∷_, _++_}
 use mathlib.Core.Bool.{Bool, true, false, cond}
 use lib.IntN.{ℤ, pos, negsuc, negℤ}
-use lib.ListN.{getD}
+use lib.ListN.{getD, take}
 use Rattle.digits.specs.Digits.{high, low, digits}
+use Rattle.digits.specs.Tens.{lastDigits, tens}
 
 -- ---- digits in bytes
 
@@ -73,3 +74,21 @@ signed minus n = cond minus (negℤ (pos n)) (pos n)
 abbrev pub belowZero : ℤ → Bool
 belowZero (pos n) = false
 belowZero (negsuc n) = true
+
+-- ---- a field of k digits and a sign
+
+-- the number that its digits write
+abbrev pub sizeIn : ℕ → List ℕ → ℕ
+sizeIn k field = tens (take k (digitsIn field))
+
+-- the digit after them
+abbrev pub signIn : ℕ → List ℕ → ℕ
+signIn k field = getD (digitsIn field) k 0
+
+-- "A, C, E, F plus, B, D minus"; "minus zero reads as 0"
+abbrev pub signedIn : ℕ → List ℕ → ℤ
+signedIn k field = signed (isMinus (signOf (signIn k field))) (sizeIn k field)
+
+-- the last k digits of a number and a sign digit, two to a byte
+abbrev pub signedBytes : ℕ → ℕ → ℕ → List ℕ
+signedBytes k size sign = inBytes (lastDigits k size ++ (sign ∷ []))

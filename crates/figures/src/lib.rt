@@ -1,4 +1,7 @@
-// A whole number in figures.
+// A whole number in figures, and a number as a person types it.
+mod typed;
+
+pub use typed::put_typed;
 ghost use mathlib.Core.Path.{_≡_};
 ghost use mathlib.Core.List.{map};
 ghost use Prim.Native.Nat.{_≤_};

@@ -10,7 +10,6 @@ use Rattle.lamps.proofs.pictures.picture.Reads as picture
 use Rattle.lamps.proofs.pictures.start_picture.Reads as start-picture
 use Rattle.lamps.proofs.walks.walk.Reads as walk
 use Rattle.lamps.proofs.endings.ending.Reads as ending
-use Rattle.lamps.proofs.results.result.Reads as result
 
 pub header-sole : (κs : _) (args : _) (r s : Written) (x y : _) → header.Post κs args r x → header.Post κs args s y → (r ≡ s) × (now (x .0) ≡ now (y .0))
 header-sole κs args r s x y p q = (sole (p .0) (q .0), sole (p .1) (q .1))
@@ -32,6 +31,3 @@ walk-sole κs args r s x y p q = (sole (p .0) (q .0), sole (p .1) (q .1))
 
 pub ending-sole : (κs : _) (args : _) (r s : Written) (x y : _) → ending.Post κs args r x → ending.Post κs args s y → (r ≡ s) × (now (x .1 .1 .0) ≡ now (y .1 .1 .0))
 ending-sole κs args r s x y p q = (sole (p .0) (q .0), sole (p .1) (q .1))
-
-pub result-sole : (κs : _) (args : _) (r s : Written) (x y : _) → result.Post κs args r x → result.Post κs args s y → (r ≡ s) × (now (x .1 .1 .0) ≡ now (y .1 .1 .0))
-result-sole κs args r s x y p q = (sole (p .0) (q .0), sole (p .1) (q .1))

@@ -12,13 +12,13 @@ use Rattle.digits.specs.Lent.{over, overAt}
 use Rattle.digits.specs.Lists.{joined}
 use Rattle.digits.proofs.Lists.{pieces-at, map-at}
 use Rattle.text.specs.Ascii.{ascii}
-use Rattle.text.specs.Text.{threeDigits, zerosInFront, decimal, fieldDigits, putOf, roomAfter}
+use Rattle.text.specs.Text.{threeDigits, zerosInFront, decimal, putOf, roomAfter}
 use Rattle.text.specs.Words.{wordsOf}
 use Rattle.text.specs.declared.Written.{Written}
 use Rattle.text.specs.declared.Written.the-variants as W
 use Rattle.text.proofs.Rows.{words-short}
-use Rattle.text.proofs.Texts.{fits, length-digits}
-use Rattle.lamps.specs.Ending.{fieldNames, fieldOf, refusedOf, placeOf, carryOf, sumOf}
+use Rattle.text.proofs.Texts.{fits}
+use Rattle.lamps.specs.Ending.{fieldNames, fieldOf, refusedOf, placeOf}
 
 -- ---- a number in decimal
 
@@ -82,9 +82,3 @@ unfolding refusedOf
 refused-short number field at =
     let words = wordsOf number ++ (10 ∷ []) in
     omega (arith, decimal-short number, field-short field, words-short number, length-append (decimal number) (fieldOf field ++ (placeOf at ++ words)), length-append (fieldOf field) (placeOf at ++ words), length-append (wordsOf number) (10 ∷ []))
-
--- ---- a sum
-
-pub length-sum : (field : List ℕ) (carry : Bool) → length (sumOf field carry) ≡ 2 * length field + 12
-unfolding sumOf
-length-sum field carry = omega (arith, length-digits field, length-append (fieldDigits field) (carryOf carry))

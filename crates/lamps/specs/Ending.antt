@@ -1,17 +1,13 @@
--- How a run ended, and what an addition came to. Assumes nothing.
-use Prim.Native.Nat.{ℕ, _+_}
+-- How a run ended. Assumes nothing.
+use Prim.Native.Nat.{ℕ}
 use Prim.Native.String.{String}
 use mathlib.Core.List.{List, [], _∷_, _++_}
-use mathlib.Core.Bool.{Bool}
 use lib.ListN.{getD}
-use Rattle.digits.specs.Bits.{one}
 use Rattle.text.specs.Ascii.{ascii}
-use Rattle.text.specs.Text.{hexadecimal, fieldDigits, decimal}
+use Rattle.text.specs.Text.{hexadecimal, decimal}
 use Rattle.text.specs.Words.{wordsOf}
 use Rattle.run.specs.declared.Ending.{Ending}
 use Rattle.run.specs.declared.Ending.the-variants as E
-use Rattle.decimal.specs.declared.Added.{Added}
-use Rattle.decimal.specs.declared.Added.the-variants as D
 
 -- the fields of a word in their order, each after a space; refusal 10 names one, and the others 0
 abbrev pub fieldNames : List String
@@ -36,19 +32,3 @@ unfoldable pub endingOf : Ending → ℕ → List ℕ
 endingOf E.Stopped at = standing (ascii "STOPPED AT ") at
 endingOf E.Spent at = standing (ascii "SPENT AT ") at
 endingOf (E.Refused number field) at = refusedOf number field at
-
-abbrev pub carryOf : Bool → List ℕ
-carryOf carry = ascii " CARRY " ++ ((48 + one carry) ∷ 10 ∷ [])
-
--- the sum, as it stands in the first field, and the carry
-unfoldable pub sumOf : List ℕ → Bool → List ℕ
-sumOf field carry = ascii " = " ++ (fieldDigits field ++ carryOf carry)
-
-unfoldable pub refusalOf : ℕ → List ℕ
-refusalOf number = ascii ": REFUSED " ++ (decimal number ++ (10 ∷ []))
-
--- what an addition came to
-unfoldable pub resultOf : List ℕ → Added → List ℕ
-resultOf field (D.Summed carry count) = sumOf field carry
-resultOf field (D.BadDigit count) = ascii ": BAD DIGIT\n"
-resultOf field (D.Refused number) = refusalOf number

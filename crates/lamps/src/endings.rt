@@ -11,7 +11,7 @@ use run::Ending;
 use text::Written;
 
 // A number in decimal.
-pub(crate) fn put_number(number: u8, room: &mut [u8], at: usize) -> usize
+fn put_number(number: u8, room: &mut [u8], at: usize) -> usize
     requires { ⌜ at + 3 ≤ length (now room) ⌝ }
     ensures { λ r. ⌜ r ≤ at + 3 ⌝ }
     ensures { λ r. ⌜ (r ≡ at + length (decimal number)) × (now (room .exit) ≡ overAt at (decimal number) (now (room .entry))) ⌝ }

@@ -3,7 +3,6 @@ mod columns;
 mod endings;
 mod lines;
 mod pictures;
-mod results;
 mod walks;
 
 pub use endings::ending;
@@ -12,5 +11,4 @@ pub use lines::line;
 pub use lines::start;
 pub use pictures::picture;
 pub use pictures::start_picture;
-pub use results::result;
 pub use walks::walk;

@@ -2,10 +2,10 @@
 use Prim.Native.Nat.{ℕ, _<_, _≤_}
 use mathlib.Core.Path.{_≡_, refl, sym, ap, subst, _∙_}
 use mathlib.Core.List.{List, [], _∷_}
-use mathlib.Core.Bool.{Bool, true, false, not, _||_}
+use mathlib.Core.Bool.{Bool, true, false, _||_}
 use native.Mathlib.Omega.{arith}
 use borrow.Author.Tests.{lt-ltb, le-ltb, ltb-true, ltb-false}
-use lib.Dec.{eqb, ltb}
+use lib.Dec.{ltb}
 use lib.IntN.{ℤ}
 use lib.ListN.{length, set}
 use mir.Syntax.{w64}
@@ -21,15 +21,14 @@ use Rattle.machine.specs.declared.Cycled.{Cycled}
 use Rattle.machine.specs.declared.NextSum.{NextSum}
 use Rattle.run.specs.Run.{runOf}
 use Rattle.run.specs.declared.Finished.{Finished}
-use Rattle.decimal.specs.Entry.{start, addOf}
 use Rattle.decimal.specs.declared.Added.{Added}
 use Rattle.digits.specs.Lent.{over}
 use Rattle.signed.specs.Signed.{readSigned}
 use Rattle.signed.specs.declared.ReadOut.the-variants as R
 use Rattle.signed.proofs.Trips.{read-whole}
-use Rattle.channels.specs.Channels.{saved, loaded}
+use Rattle.channels.specs.Channels.{loaded}
 use Rattle.panel.specs.Fields.{fieldsIn}
-use Rattle.panel.specs.Answers.{REFUSED, coded, counted, answered, answerApart, takeApartCall, answerPacked, packCall, Called, called, short, cycled, cycledBy, cycleCall, endingCode, recordAfter, ranBy, runCall, answerNext, nextSumCall, startCall, addedCode, addedBy, addDecimalCall, readSignedCall}
+use Rattle.panel.specs.Answers.{REFUSED, coded, counted, answered, answerApart, takeApartCall, answerPacked, packCall, Called, called, short, cycled, cycledBy, cycleCall, endingCode, recordAfter, ranBy, runCall, answerNext, nextSumCall, addedCode, addedBy, readSignedCall}
 
 -- ---- a word
 
@@ -105,7 +104,7 @@ module _ (store main local state : List ℕ) (budget : ℕ) where
   run-any m l out s f k r h in-state o p e q =
       (λ i. called ((q ∙ ap (λ (x : ℕ). counted x (f .count)) e) i) m l (p i)) ∙ ap (λ (x : Outcome Finished). ranBy x state) (o ∙ ap (runOf budget store main local) in-state) ∙ run-else h
 
--- ---- the work of the next word, and the start of the shipped words
+-- ---- the work of the next word
 
 module _ (store state work : List ℕ) where
   pub next-short : ltb (length state) 22 || ltb (length work) 8 ≡ true → answered 19 work ≡ nextSumCall store state work
@@ -117,21 +116,10 @@ module _ (store state work : List ℕ) where
   unfolding nextSumCall
   next-is h s n x in-state is e = ap (λ (y : NextSum). answerNext y work) (sym e ∙ is ∙ ap (nextSumOf store) in-state) ∙ rw h
 
-module _ (first second n carry : ℕ) (state : List ℕ) where
-  pub start-short : length state < 22 → answered 19 state ≡ startCall first second n carry state
-  unfolding startCall
-  start-short h = rw (lt-ltb (length state) 22 h)
+-- ---- decimal add, and add and subtract with signs
 
-  pub start-is : 22 ≤ length state → (s : State) (out : List ℕ) → s ≡ start first second n (not (eqb carry 0)) → out ≡ over (saved s) state → answered 0 out ≡ startCall first second n carry state
-  unfolding startCall
-  start-is h s out is e = ap (answered 0) (e ∙ ap (λ (x : State). over (saved x) state) is) ∙ rw (le-ltb (length state) 22 h)
-
--- ---- decimal add
-
-pub added : (main local m l : List ℕ) (first second n carry : ℕ) (on : Bool) (a : Added) (r : ℕ) → on ≡ not (eqb carry 0) → outcome a m l ≡ addOf main local first second n on → r ≡ addedCode a
-    → outcome r m l ≡ addDecimalCall main local first second n carry
-unfolding addDecimalCall
-added main local m l first second n carry on a r h o q = (λ i. outcome (q i) m l) ∙ ap addedBy (o ∙ ap (addOf main local first second n) h)
+pub added : (m l : List ℕ) (a : Added) (r : ℕ) (o : Outcome Added) → outcome a m l ≡ o → r ≡ addedCode a → outcome r m l ≡ addedBy o
+added m l a r o e q = (λ i. outcome (q i) m l) ∙ ap addedBy e
 
 -- ---- a signed field
 

@@ -28,11 +28,15 @@ use Rattle.panel.proofs.panel_pack.Reads as pack
 use Rattle.panel.proofs.panel_cycle.Reads as cycle
 use Rattle.panel.proofs.panel_run.Reads as run
 use Rattle.panel.proofs.panel_add_decimal.Reads as add-decimal
+use Rattle.panel.proofs.panel_add_signed.Reads as add-signed
+use Rattle.panel.proofs.panel_sub_signed.Reads as sub-signed
 use Rattle.panel.proofs.panel_read_deck.Reads as read-deck
 use Rattle.panel.proofs.panel_write_deck.Reads as write-deck
 use Rattle.panel.proofs.panel_next_sum.Reads as next-sum
 use Rattle.panel.proofs.panel_start.Reads as start
+use Rattle.panel.proofs.panel_start_signed.Reads as start-signed
 use Rattle.panel.proofs.panel_shipped.Reads as shipped
+use Rattle.panel.proofs.panel_shipped_signed.Reads as shipped-signed
 use Rattle.panel.proofs.panel_read_signed.Reads as read-signed
 use Rattle.panel.proofs.panel_write_signed.Reads as write-signed
 
@@ -120,6 +124,12 @@ run-sole κs args r q x y a b = sole a b
 pub add-decimal-sole : (κs : _) (args : _) (r q : ℕ) (x y : _) → add-decimal.Post κs args r x → add-decimal.Post κs args q y → outcome r (now (x .0)) (now (x .1 .0)) ≡ outcome q (now (y .0)) (now (y .1 .0))
 add-decimal-sole κs args r q x y a b = sole a b
 
+pub add-signed-sole : (κs : _) (args : _) (r q : ℕ) (x y : _) → add-signed.Post κs args r x → add-signed.Post κs args q y → outcome r (now (x .0)) (now (x .1 .0)) ≡ outcome q (now (y .0)) (now (y .1 .0))
+add-signed-sole κs args r q x y a b = sole a b
+
+pub sub-signed-sole : (κs : _) (args : _) (r q : ℕ) (x y : _) → sub-signed.Post κs args r x → sub-signed.Post κs args q y → outcome r (now (x .0)) (now (x .1 .0)) ≡ outcome q (now (y .0)) (now (y .1 .0))
+sub-signed-sole κs args r q x y a b = sole a b
+
 pub read-deck-sole : (κs : _) (args : _) (r q : ℕ) (x y : _) → read-deck.Post κs args r x → read-deck.Post κs args q y → answered r (now (x .1 .0)) ≡ answered q (now (y .1 .0))
 read-deck-sole κs args r q x y a b = sole a b
 
@@ -132,8 +142,14 @@ next-sum-sole κs args r q x y a b = sole a b
 pub start-sole : (κs : _) (args : _) (r q : ℕ) (x y : _) → start.Post κs args r x → start.Post κs args q y → answered r (now (x .1 .1 .1 .1 .0)) ≡ answered q (now (y .1 .1 .1 .1 .0))
 start-sole κs args r q x y a b = sole a b
 
+pub start-signed-sole : (κs : _) (args : _) (r q : ℕ) (x y : _) → start-signed.Post κs args r x → start-signed.Post κs args q y → answered r (now (x .1 .1 .1 .1 .0)) ≡ answered q (now (y .1 .1 .1 .1 .0))
+start-signed-sole κs args r q x y a b = sole a b
+
 pub shipped-sole : (κs : _) (args : _) (r q : ℕ) (x y : _) → shipped.Post κs args r x → shipped.Post κs args q y → answered r (now (x .0)) ≡ answered q (now (y .0))
 shipped-sole κs args r q x y a b = sole a b
+
+pub shipped-signed-sole : (κs : _) (args : _) (r q : ℕ) (x y : _) → shipped-signed.Post κs args r x → shipped-signed.Post κs args q y → answered r (now (x .0)) ≡ answered q (now (y .0))
+shipped-signed-sole κs args r q x y a b = sole a b
 
 pub read-signed-sole : (κs : _) (args : _) (r q : ℕ) (x y : _) → read-signed.Post κs args r x → read-signed.Post κs args q y → answered r (now (x .1 .0)) ≡ answered q (now (y .1 .0))
 read-signed-sole κs args r q x y a b = sole a b

@@ -1,7 +1,7 @@
 -- What each function of panel.h answers, and what it leaves in all it is lent. Assumes nothing.
 use Prim.Native.Nat.{ℕ, _+_, _*_, _^_}
 use mathlib.Core.List.{List, [], _∷_}
-use mathlib.Core.Bool.{cond, not, _||_}
+use mathlib.Core.Bool.{true, false, cond, not, _||_}
 use lib.Dec.{eqb, ltb}
 use lib.IntN.{ℤ}
 use lib.ListN.{length}
@@ -25,6 +25,8 @@ use Rattle.decimal.specs.Program.{shipped}
 use Rattle.decimal.specs.Entry.{start, addOf}
 use Rattle.decimal.specs.declared.Added.{Added}
 use Rattle.decimal.specs.declared.Added.the-variants as D
+use Rattle.apsp.specs.Program.{signedWords}
+use Rattle.apsp.specs.Entry.{signedStart, signedOf}
 use Rattle.digits.specs.Lent.{over}
 use Rattle.deck.specs.Deck.{readOf, wordsAfter, writeOf, deckAfter}
 use Rattle.deck.specs.declared.Reading.{Reading}
@@ -159,16 +161,29 @@ unfoldable pub nextSumCall : List ℕ → List ℕ → List ℕ → Answered ℕ
 nextSumCall store state work =
     cond (ltb (length state) recordLength || ltb (length work) workLength) (answered 19 work) (answerNext (nextSumOf store (loaded state)) work)
 
--- ---- the shipped words, and the state from which the decimal entry runs them
+-- ---- the words of the two programs, and the state from which the entry of each runs them
 
--- "0, or 19 where fewer than PANEL_STATE bytes are lent"; "carry_in: off at 0, on otherwise"
+-- "0, or 19 where fewer than PANEL_STATE bytes are lent"
+abbrev pub started : State → List ℕ → Answered ℕ
+started s state = cond (ltb (length state) recordLength) (answered 19 state) (answered 0 (over (saved s) state))
+
+-- "carry_in: off at 0, on otherwise"
 unfoldable pub startCall : ℕ → ℕ → ℕ → ℕ → List ℕ → Answered ℕ
-startCall first second n carry state =
-    cond (ltb (length state) recordLength) (answered 19 state) (answered 0 (over (saved (start first second n (not (eqb carry 0)))) state))
+startCall first second n carry state = started (start first second n (not (eqb carry 0))) state
+
+-- "subtract: off at 0, on otherwise"
+unfoldable pub startSignedCall : ℕ → ℕ → ℕ → ℕ → List ℕ → Answered ℕ
+startSignedCall first second n subtract state = started (signedStart first second n (not (eqb subtract 0))) state
 
 -- "the number of words, or 65536 * 19"
+abbrev pub handed : List ℕ → List ℕ → Answered ℕ
+handed program words = cond (ltb (length words) (length program)) (answered (65536 * 19) words) (answered (length program) (over program words))
+
 unfoldable pub shippedCall : List ℕ → Answered ℕ
-shippedCall words = cond (ltb (length words) (length shipped)) (answered (65536 * 19) words) (answered (length shipped) (over shipped words))
+shippedCall words = handed shipped words
+
+unfoldable pub shippedSignedCall : List ℕ → Answered ℕ
+shippedSignedCall words = handed signedWords words
 
 -- ---- decimal add
 
@@ -184,6 +199,15 @@ addedBy o = outcome (addedCode (o .answer)) (o .main) (o .local)
 -- "carry_in: off at 0, on otherwise"
 unfoldable pub addDecimalCall : List ℕ → List ℕ → ℕ → ℕ → ℕ → ℕ → Outcome ℕ
 addDecimalCall main local first second n carry = addedBy (addOf main local first second n (not (eqb carry 0)))
+
+-- ---- decimal add and subtract with signs
+
+-- the same code, with "65536 * overflow"
+unfoldable pub addSignedCall : List ℕ → List ℕ → ℕ → ℕ → ℕ → Outcome ℕ
+addSignedCall main local first second n = addedBy (signedOf main local first second n false)
+
+unfoldable pub subSignedCall : List ℕ → List ℕ → ℕ → ℕ → ℕ → Outcome ℕ
+subSignedCall main local first second n = addedBy (signedOf main local first second n true)
 
 -- ---- a deck
 

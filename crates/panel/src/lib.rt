@@ -5,7 +5,7 @@ ghost use mathlib.Core.Path.{_≡_};
 ghost use Prim.Native.Nat.{_≤_};
 ghost use lib.ListN.{length};
 ghost use Rattle.machine.specs.Cycle.{outcome};
-ghost use Rattle.panel.specs.Answers.{coded, counted, answered, takeApartCall, packCall, called, cycleCall, endingCode, recordAfter, runCall, nextSumCall, startCall, shippedCall, addedCode, addDecimalCall, readDeckCall, writeDeckCall, readSignedCall, writeSignedCall};
+ghost use Rattle.panel.specs.Answers.{coded, counted, answered, takeApartCall, packCall, called, cycleCall, endingCode, recordAfter, runCall, nextSumCall, started, startCall, startSignedCall, handed, shippedCall, shippedSignedCall, addedCode, addDecimalCall, addSignedCall, subSignedCall, readDeckCall, writeDeckCall, readSignedCall, writeSignedCall};
 ghost use Rattle.digits.specs.Lent.{over};
 ghost use Rattle.channels.specs.Channels.{saved, worked};
 use adder::Work;
@@ -190,6 +190,17 @@ pub extern "C" fn panel_next_sum(store: &[u64], state: &[u8], work: &mut [u8]) -
     }
 }
 
+// Puts the record of a start, where there is room for it.
+fn started(s: State, state: &mut [u8]) -> u32
+    ensures { λ r. ⌜ answered r (now (state .exit)) ≡ started s (now (state .entry)) ⌝ }
+{
+    if state.len() < STATE {
+        return 19;
+    }
+    save(s, state);
+    0
+}
+
 // The state from which the decimal entry runs the shipped words.
 #[no_mangle]
 pub extern "C" fn panel_start(
@@ -201,11 +212,19 @@ pub extern "C" fn panel_start(
 ) -> u32
     ensures { λ r. ⌜ answered r (now (state .exit)) ≡ startCall first second length carry (now (state .entry)) ⌝ }
 {
-    if state.len() < STATE {
-        return 19;
+    started(decimal::start(first, second, length, carry != 0), state)
+}
+
+// Puts a program's words, where there is room for them.
+fn handed(program: &[u64], words: &mut [u64]) -> u32
+    requires { ⌜ length (now program) ≤ 4096 ⌝ }
+    ensures { λ r. ⌜ answered r (now (words .exit)) ≡ handed (now (program .entry)) (now (words .entry)) ⌝ }
+{
+    if words.len() < program.len() {
+        return 65536 * 19;
     }
-    save(decimal::start(first, second, length, carry != 0), state);
-    0
+    digits::copy_words(program, words);
+    program.len() as u32
 }
 
 // The shipped words.
@@ -213,15 +232,32 @@ pub extern "C" fn panel_start(
 pub extern "C" fn panel_shipped(words: &mut [u64]) -> u32
     ensures { λ r. ⌜ answered r (now (words .exit)) ≡ shippedCall (now (words .entry)) ⌝ }
 {
-    if words.len() < 21 {
-        return 65536 * 19;
-    }
-    let shipped = decimal::words();
-    digits::copy_words(&shipped[0..21], words);
-    21
+    handed(&decimal::words(), words)
 }
 
-// The carry out stands where a refusal's field stands.
+// The state from which the entry of AP and SP runs theirs.
+#[no_mangle]
+pub extern "C" fn panel_start_signed(
+    first: u16,
+    second: u16,
+    length: u8,
+    subtract: u8,
+    state: &mut [u8],
+) -> u32
+    ensures { λ r. ⌜ answered r (now (state .exit)) ≡ startSignedCall first second length subtract (now (state .entry)) ⌝ }
+{
+    started(apsp::start(first, second, length, subtract != 0), state)
+}
+
+// The words of AP and SP.
+#[no_mangle]
+pub extern "C" fn panel_shipped_signed(words: &mut [u64]) -> u32
+    ensures { λ r. ⌜ answered r (now (words .exit)) ≡ shippedSignedCall (now (words .entry)) ⌝ }
+{
+    handed(&apsp::words(), words)
+}
+
+// The carry out, or the overflow, stands where a refusal's field stands.
 fn added_code(added: Added) -> u64
     ensures { λ r. ⌜ r ≡ addedCode added ⌝ }
 {
@@ -245,6 +281,34 @@ pub extern "C" fn panel_add_decimal(
     ensures { λ r. ⌜ outcome r (now (main .exit)) (now (local .exit)) ≡ addDecimalCall (now (main .entry)) (now (local .entry)) first second length carry ⌝ }
 {
     added_code(decimal::add(main, local, first, second, length, carry != 0))
+}
+
+// AP: first field += second field, both with their signs. The overflow stands where the carry out stands.
+#[no_mangle]
+pub extern "C" fn panel_add_signed(
+    main: &mut [u8],
+    local: &mut [u8],
+    first: usize,
+    second: usize,
+    length: usize,
+) -> u64
+    ensures { λ r. ⌜ outcome r (now (main .exit)) (now (local .exit)) ≡ addSignedCall (now (main .entry)) (now (local .entry)) first second length ⌝ }
+{
+    added_code(apsp::add(main, local, first, second, length, false))
+}
+
+// SP: first field -= second field.
+#[no_mangle]
+pub extern "C" fn panel_sub_signed(
+    main: &mut [u8],
+    local: &mut [u8],
+    first: usize,
+    second: usize,
+    length: usize,
+) -> u64
+    ensures { λ r. ⌜ outcome r (now (main .exit)) (now (local .exit)) ≡ subSignedCall (now (main .entry)) (now (local .entry)) first second length ⌝ }
+{
+    added_code(apsp::add(main, local, first, second, length, true))
 }
 
 // Deck to words: the count of words, or 65536 * refusal number.

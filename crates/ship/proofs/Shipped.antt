@@ -1,4 +1,4 @@
--- No shipped word is refused, and their deck fills one block. Assumes nothing.
+-- No word of either program is refused, and the deck of each is one block. Assumes nothing.
 use Prim.Native.Nat.{ℕ}
 use mathlib.Core.Path.{_≡_, refl, sym, subst, _∙_}
 use mathlib.Core.List.{List}
@@ -6,22 +6,24 @@ use native.Mathlib.Omega.{arith}
 use lib.Count.{ones}
 use lib.ListN.{length}
 use Rattle.digits.specs.Refusal.{first}
+use Rattle.digits.proofs.Copies.{over-full}
 use Rattle.word.specs.Word.{packed, inWidth}
 use Rattle.deck.specs.Deck.{wordChecks, writeChecks, deckOf, deckAfter}
 use Rattle.deck.proofs.Answers.{write-accepted}
-use Rattle.digits.proofs.Copies.{over-full}
 use Rattle.deck.proofs.Written.{length-deck}
 use Rattle.decimal.specs.Program.{shipped}
+use Rattle.apsp.specs.Program.{signedWords}
+use Rattle.ship.specs.Block.{OneBlock}
 
-accepted : first (writeChecks shipped 512) ≡ 0
-unfolding wordChecks shipped packed inWidth ones
-accepted = refl
+pub add-fits : OneBlock shipped
+unfolding OneBlock wordChecks shipped packed inWidth ones
+add-fits = (refl, length-deck shipped)
 
-one-block : length (deckOf shipped) ≡ 512
-unfolding shipped
-one-block = length-deck shipped
+pub apsp-fits : OneBlock signedWords
+unfolding OneBlock wordChecks signedWords packed inWidth ones
+apsp-fits = (refl, length-deck signedWords)
 
-pub written : (room : List ℕ) → length room ≡ 512 → deckAfter shipped room ≡ deckOf shipped
-written room h =
-    sym (write-accepted shipped room (subst (λ (n : ℕ). first (writeChecks shipped n) ≡ 0) (sym h) accepted) .1)
-    ∙ over-full (deckOf shipped) room (omega (arith, one-block))
+pub written : (words room : List ℕ) → OneBlock words → length room ≡ 512 → deckAfter words room ≡ deckOf words
+unfolding OneBlock
+written words room (accepted, one-block) h =
+    sym (write-accepted words room (subst (λ (n : ℕ). first (writeChecks words n) ≡ 0) (sym h) accepted) .1) ∙ over-full (deckOf words) room (omega (arith, one-block))

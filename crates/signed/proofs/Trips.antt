@@ -9,17 +9,17 @@ use native.Mathlib.Nat.{add-zero}
 use native.Mathlib.Omega.{arith}
 use lib.Dec.{eqb, ltb}
 use lib.IntN.{ℤ, pos, negsuc, natAbs}
-use lib.ListN.{length, getD, take, drop, length-append, take-append-drop}
-use lib.Seq.{take-at, getD-at, drop-cons, drop-length}
+use lib.ListN.{length, getD, take, length-append}
+use lib.Seq.{take-at, getD-at}
 use mir.Syntax.{w64}
 use mir.Val.{toZ, ofZ}
-use Rattle.digits.specs.Packed.{digitsIn, inBytes, signOf, isMinus, isNone, preferred, signed, belowZero}
+use Rattle.digits.specs.Packed.{digitsIn, signOf, isMinus, isNone, preferred, signed, belowZero}
 use Rattle.digits.specs.Tens.{lastDigits, tens}
 use Rattle.digits.proofs.Refusals.{Tells, given-none}
 use Rattle.digits.proofs.Table.{Below, each-append, each-into}
 use Rattle.digits.proofs.Truth.{zero-one}
-use Rattle.digits.proofs.Tens.{length-last, last-below, tens-last, last-tens, tens-lt}
-use Rattle.digits.proofs.Packed.{length-digits-in, bytes-digits, digits-bytes, bytes-below, preferred-is, size-signed, signed-size}
+use Rattle.digits.proofs.Tens.{length-last, last-below, tens-last, tens-lt}
+use Rattle.digits.proofs.Packed.{digits-bytes, bytes-below, preferred-is, size-signed, signed-size, read-back}
 use Rattle.signed.specs.Signed.{fifteen, signDigit, fieldWrong, overNine, badPlace, readSignedChecks, numberIn, readSigned, writeSignedChecks, signedField, fieldFor, writeSigned, fieldAfter}
 use Rattle.signed.specs.Trips.{ReadsBack, KeptSign, WritesBack, Shows, Reached}
 use Rattle.signed.specs.declared.ReadOut.the-variants as R
@@ -85,14 +85,7 @@ module _ (size sign : ℕ) (small : sign < 16) where
 -- a field that is read is that of its digits and its sign
 read-field : (field : List ℕ) → length field ≡ 8 → Below 10 (fifteen field) → field ≡ signedField (tens (fifteen field)) (signDigit field)
 unfolding signedField
-read-field field eight b =
-    let ds = digitsIn field in
-    let sixteen : length ds ≡ 16 = length-digits-in field ∙ rw eight refl in
-    let past : drop 16 ds ≡ [] = rw sixteen at (drop-length ds) in
-    let last : drop 15 ds ≡ signDigit field ∷ [] = drop-cons ds 15 0 (omega arith) ∙ ap (λ (l : List ℕ). signDigit field ∷ l) past in
-    sym (bytes-digits field)
-    ∙ ap inBytes (sym (take-append-drop 15 ds) ∙ ap (λ (l : List ℕ). fifteen field ++ l) last)
-    ∙ ap (λ (l : List ℕ). inBytes (l ++ (signDigit field ∷ []))) (sym (last-tens 15 (fifteen field) (all field (omega arith)) b))
+read-field field eight b = read-back 7 field eight b
 
 -- ---- what was written reads back
 

@@ -1,13 +1,12 @@
 -- Signed read-out: "Fields are 8 bytes, fifteen digits and a sign". Assumes nothing.
 use Prim.Native.Nat.{ℕ, suc, _^_}
-use mathlib.Core.List.{List, [], _∷_, _++_}
+use mathlib.Core.List.{List, [], _∷_}
 use mathlib.Core.Bool.{Bool, cond, not}
 use lib.Dec.{eqb, ltb, leb}
 use lib.IntN.{ℤ, natAbs}
-use lib.ListN.{length, getD, take}
+use lib.ListN.{length, take}
 use Rattle.digits.specs.Refusal.{Check, first, answer}
-use Rattle.digits.specs.Tens.{lastDigits, tens}
-use Rattle.digits.specs.Packed.{digitsIn, inBytes, signOf, isMinus, isNone, preferred, signed, belowZero}
+use Rattle.digits.specs.Packed.{digitsIn, signOf, isNone, preferred, belowZero, signIn, signedIn, signedBytes}
 use Rattle.signed.specs.declared.ReadOut.{ReadOut}
 use Rattle.signed.specs.declared.ReadOut.the-variants as R
 use Rattle.signed.specs.declared.Wrote.{Wrote}
@@ -23,7 +22,7 @@ fifteen field = take 15 (digitsIn field)
 
 -- "and a sign"
 abbrev pub signDigit : List ℕ → ℕ
-signDigit field = getD (digitsIn field) 15 0
+signDigit field = signIn 15 field
 
 -- "33 a lent field of other than 8 bytes"
 abbrev pub fieldWrong : List ℕ → Bool
@@ -44,9 +43,9 @@ badPlace field = overNine 0 (fifteen field)
 abbrev pub readSignedChecks : List ℕ → List Check
 readSignedChecks field = (33, fieldWrong field) ∷ (25, ltb (badPlace field) 15) ∷ (26, isNone (signOf (signDigit field))) ∷ []
 
--- "A, C, E, F plus, B, D minus"; "minus zero reads as 0"
+-- its number
 abbrev pub numberIn : List ℕ → ℤ
-numberIn field = signed (isMinus (signOf (signDigit field))) (tens (fifteen field))
+numberIn field = signedIn 15 field
 
 -- "The read-out gives a signed 64-bit number"
 unfoldable pub readSigned : List ℕ → ReadOut
@@ -64,7 +63,7 @@ writeSignedChecks number field = (33, fieldWrong field) ∷ (27, tooLarge number
 
 -- fifteen digits and a sign digit, two to a byte
 unfoldable pub signedField : ℕ → ℕ → List ℕ
-signedField size sign = inBytes (lastDigits 15 size ++ (sign ∷ []))
+signedField size sign = signedBytes 15 size sign
 
 -- "The way back writes C or D, never D for zero"
 abbrev pub fieldFor : ℤ → List ℕ

@@ -1,43 +1,51 @@
 -- The checks, then the run; and the promise. Assumes nothing.
-use mathlib.Core.Path.{sym, _∙_}
+use Prim.Native.Nat.{ℕ}
+use mathlib.Core.Path.{_≡_, sym, _∙_}
 use native.Mathlib.Omega.{arith}
 use denote.Ref.{now}
 use lib.ListN.{length}
-use Rattle.decimal.proofs.Whole.{Fit}
-use Rattle.decimal.proofs.Kept.{checked, refuses, accepts, with-promise}
+use Rattle.digits.specs.Refusal.{first}
+use Rattle.run.specs.Run.{runOf}
+use Rattle.decimal.specs.Entry.{addChecks, bound, runFor, fromRun, SUMMED, addOf}
+use Rattle.decimal.proofs.Checks.{Fit, checked}
+use Rattle.decimal.proofs.Kept.{refuses, accepts, with-promise}
 use borrow.Author.Needs.{needs}
 use Rattle.decimal.proofs.add.Statement.{statement}
 use Rattle.decimal.proofs.add.Tie as tie
 
-fit : (c : tie.After-run-words-arg2) → let a = c .before .before .before .before .before .before .args in Fit (length (now (a .main))) (length (now (a .local))) (a .first) (a .second) (a .length)
-fit c =
-    let a = c .before .before .before .before .before .before .args in
-    checked (length (now (a .main))) (length (now (a .local))) (a .first) (a .second) (a .length) (sym (c .before .before .before .refusal .ensures) ∙ c .before .before .if1 .left)
+accepted : (c : tie.Else1) → let a = c .before .before .before .before .args in first (addChecks (length (now (a .main))) (length (now (a .local))) (a .first) (a .second) (a .length)) ≡ 0
+accepted c = sym (c .before .refusal .ensures) ∙ c .if1 .left
+
+fit : (c : tie.Else1) → let a = c .before .before .before .before .args in Fit (length (now (a .main))) (length (now (a .local))) (a .first) (a .second) (a .length)
+fit c = let a = c .before .before .before .before .args in checked (length (now (a .main))) (length (now (a .local))) (a .first) (a .second) (a .length) (accepted c)
 
 returns : tie.Need-returns
+unfolding addOf
 returns c =
     let a = c .before .before .before .before .args in
     with-promise (now (a .main)) (now (a .local)) (a .first) (a .second) (a .length) (a .carry) _ (now (a .main)) (now (a .local))
-    (refuses (now (a .main)) (now (a .local)) (a .first) (a .second) (a .length) (a .carry) (c .before .refusal .result) (c .before .refusal .ensures) (c .if1 .taken))
+    (refuses SUMMED (runFor (now (a .main)) (now (a .local)) (a .first) (a .second) (a .length) (a .carry)) (now (a .main)) (now (a .local)) (a .first) (a .second) (a .length) (c .before .refusal .result) (c .before .refusal .ensures) (c .if1 .taken))
 
-cast-run-words : tie.Need-cast-run-words
-cast-run-words c = let f = fit c in omega arith
+cast-bytes : tie.Need-cast-bytes
+cast-bytes c = let f = fit (c .before) in omega arith
 
-cast-run-words-2 : tie.Need-cast-run-words-2
-cast-run-words-2 c = let f = fit c in omega arith
+cast-start : tie.Need-cast-start
+cast-start c = let f = fit (c .before) in omega arith
 
-cast-run-words-3 : tie.Need-cast-run-words-3
-cast-run-words-3 c = let f = fit c in omega arith
-
-run-words-requires : tie.Need-run-words-requires
-run-words-requires c κs = fit c .few
+cast-start-2 : tie.Need-cast-start-2
+cast-start-2 c = let f = fit (c .before) in omega arith
 
 returns-2 : tie.Need-returns-2
+unfolding addOf
 returns-2 c =
-    let a = c .before .before .before .before .before .before .before .before .before .before .before .args in
+    let r = c .before .before .before .before in
+    let s = r .before .before .before .before in
+    let w = s .before in
+    let a = w .before .before .before .before .before .args in
     with-promise (now (a .main)) (now (a .local)) (a .first) (a .second) (a .length) (a .carry) _ _ _
-    (c .before .before .before .before .run-words .ensures
-    ∙ accepts (now (a .main)) (now (a .local)) (a .first) (a .second) (a .length) (a .carry) (sym (c .before .before .before .before .before .before .before .before .refusal .ensures) ∙ c .before .before .before .before .before .before .before .if1 .left))
+    (r .run-words .ensures
+    ∙ (λ i. fromRun SUMMED (runOf (bound (a .length)) (w .words .ensures i) (now (a .main)) (now (a .local)) (s .start .ensures i)))
+    ∙ accepts SUMMED (runFor (now (a .main)) (now (a .local)) (a .first) (a .second) (a .length) (a .carry)) (now (a .main)) (now (a .local)) (a .first) (a .second) (a .length) (accepted (w .before)))
 
 pub add-spec : {M : Type 1} → statement M
 add-spec =
@@ -45,10 +53,13 @@ add-spec =
     (tie.spec
     (λ c κs. tt)
     returns
-    cast-run-words
-    cast-run-words-2
-    cast-run-words-3
-    run-words-requires
+    (λ c κs. tt)
+    cast-bytes
+    cast-start
+    cast-start-2
+    (λ c κs. tt)
+    (λ c. search needs)
+    (λ c κs. tt)
     (λ c. search needs)
     (λ c. search needs)
     returns-2)

@@ -1,12 +1,13 @@
 -- The decimal entry. Assumes nothing.
-use mathlib.Core.Path.{refl}
+use Rattle.panel.specs.Answers.{addDecimalCall}
 use Rattle.panel.proofs.Calls.{added}
 use borrow.Author.Needs.{needs}
 use Rattle.panel.proofs.panel_add_decimal.Statement.{statement}
 use Rattle.panel.proofs.panel_add_decimal.Tie as tie
 
 returns : tie.Need-returns
-returns c = added _ _ _ _ _ _ _ _ _ _ _ refl (c .before .before .before .before .before .add .ensures .0) (c .added-code .ensures)
+unfolding addDecimalCall
+returns c = added _ _ _ _ _ (c .before .before .before .before .before .add .ensures .0) (c .added-code .ensures)
 
 pub panel-add-decimal-spec : {M : Type 1} → statement M
 panel-add-decimal-spec =

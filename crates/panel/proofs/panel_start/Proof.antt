@@ -1,15 +1,16 @@
--- 19, then the record of the start. Assumes nothing.
-use Rattle.panel.proofs.Calls.{start-short, start-is}
+-- The record of the entry's own start. Assumes nothing.
+use mathlib.Core.Path.{ap, _∙_}
 use borrow.Author.Needs.{needs}
+use Rattle.machine.specs.declared.State.{State}
+use Rattle.panel.specs.Answers.{started, startCall}
 use Rattle.panel.proofs.panel_start.Statement.{statement}
 use Rattle.panel.proofs.panel_start.Tie as tie
 
 returns : tie.Need-returns
-returns c = start-short _ _ _ _ _ (c .if1 .taken)
-
-returns-2 : tie.Need-returns-2
-returns-2 c =
-    start-is _ _ _ _ _ (c .before .before .before .before .before .if1 .left) _ _ (c .before .before .before .before .start .ensures) (c .before .before .save .ensures)
+unfolding startCall
+returns c =
+    let began = c .before .before .before .before in
+    c .before .before .started .ensures ∙ ap (λ (s : State). started s (began .before .before .args .state .now)) (began .start .ensures)
 
 pub panel-start-spec : {M : Type 1} → statement M
-panel-start-spec = tie.close (tie.spec returns (λ c κs. tt) (λ c κs. search needs) (λ c. search needs) returns-2)
+panel-start-spec = tie.close (tie.spec (λ c κs. tt) (λ c κs. tt) (λ c. search needs) returns)

@@ -9,8 +9,8 @@ use Rattle.board.proofs.add.added.Tie as tie
 part-text-end : tie.Need-part-text-end
 part-text-end c =
     let told = c .before .before in
-    let said = told .before .before .before .before .before .before .before .before .before .before .before .before .before .before in
-    omega (arith, put-inside _ _ _ (sym (said .say .ensures .0) ∙ told .text4 .given .1), said .say .kept .1 .1 .1 .1 .0)
+    let said = told .before .before .before .before .before .before .before .before .before .before .before .before .before in
+    omega (arith, put-inside _ _ _ (sym (said .say .ensures .0) ∙ told .text .given .1), said .say .kept .1 .1 .1 .1 .0)
 
 pub added-spec : {M : Type 1} → statement M
 added-spec =
@@ -22,8 +22,8 @@ added-spec =
     (λ c. search needs)
     (λ c κs. search needs)
     (λ c. search needs)
-    (λ c. search needs)
     (λ c κs. search needs)
+    (λ c. search needs)
     (λ c. search needs)
     (λ c κs. search needs)
     (λ c. search needs)

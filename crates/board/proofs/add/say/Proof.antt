@@ -19,8 +19,8 @@ lay-out-requires c κs =
     let few = few-bytes (now (s .args .first)) (now (s .args .second)) (s .pre .0) (s .pre .1) in
     (refl, rw (c .before .field-length .ensures) (few .1))
 
-answered-requires : tie.Need-answered-requires
-answered-requires c κs =
+summed-requires : tie.Need-summed-requires
+summed-requires c κs =
     let laid = c .before .before .before .before in
     let sized = laid .before .before in
     let s = sized .before .before .before .before .before in
@@ -30,20 +30,21 @@ answered-requires c κs =
 
 part-result-end : tie.Need-part-result-end
 part-result-end c =
-    let ran = c .before .before .before .before .before .before in
+    let ran = c .before .before .before .before .before .before .before in
     let laid = ran .before .before .before .before .before in
     let sized = laid .before .before in
     let s = sized .before .before .before .before .before in
     let few = few-bytes (now (s .args .first)) (now (s .args .second)) (s .pre .0) (s .pre .1) in
-    omega (arith, sized .field-length .ensures, few, ran .answered .kept .1 .1 .1 .0, laid .lay-out .kept .1 .1 .1 .0)
+    omega (arith, sized .field-length .ensures, few, ran .summed .kept .1 .1 .1 .1 .0, laid .lay-out .kept .1 .1 .1 .0)
 
 returns : tie.Need-returns
 returns c =
-    let ran = c .before .before .before .before .before .before .before .before .before .before .before in
+    let signs = c .before .before .before .before .before .before in
+    let ran = signs .before .before .before .before .before .before in
     let laid = ran .before .before .before .before .before in
     let sized = laid .before .before in
     let a = sized .before .before .before .before .before .args in
-    rw (said (now (a .first)) (now (a .second)) (a .carry) _ _ _ _ _ (sized .field-length .ensures) (laid .lay-out .ensures) (ran .answered .ensures)) at (c .before .before .result .ensures)
+    rw (signs .has-signs .ensures, said (a .operation) (now (a .first)) (now (a .second)) _ _ _ _ _ (sized .field-length .ensures) (laid .lay-out .ensures) (ran .summed .ensures)) at (c .before .before .result .ensures)
 
 pub say-spec : {M : Type 1} → statement M
 say-spec =
@@ -54,8 +55,9 @@ say-spec =
     lay-out-requires
     (λ c. search needs)
     (λ c. search needs)
-    answered-requires
+    summed-requires
     (λ c. search needs)
+    (λ c κs. search needs)
     (λ c. search needs)
     (λ c. search needs)
     part-result-end

@@ -1,11 +1,10 @@
 -- A copy into the part that the text fills. Assumes nothing.
-use Prim.Native.Nat.{_+_, _-_}
-use mathlib.Core.Path.{_≡_, refl, _∙_}
+use mathlib.Core.Path.{refl}
 use native.Mathlib.Nat.{add-sub-cancel-left}
 use native.Mathlib.Omega.{arith}
-use lib.ListN.{length, take, drop, length-take, length-drop}
+use lib.ListN.{length}
 use borrow.Author.Needs.{needs}
-use Rattle.digits.proofs.Copies.{copied-full}
+use Rattle.digits.proofs.Copies.{copied-part}
 use Rattle.lamps.proofs.columns.after.Statement.{statement}
 use Rattle.lamps.proofs.columns.after.Tie as tie
 
@@ -13,11 +12,8 @@ returns : tie.Need-returns
 returns c =
     let a = c .before .before .before .before .before .before .args in
     let text = a .text .now in
-    let room = a .room .now in
-    let k : a .at + length text - a .at ≡ length text = add-sub-cancel-left (a .at) (length text) in
-    let n : length (take (length text) (drop (a .at) room)) ≡ length text = rw (length-take, length-drop) (omega arith) in
-    let x : c .before .before .copy .last .1 .0 ≡ text = (rw k at (c .before .before .copy .ensures)) ∙ copied-full text (take (length text) (drop (a .at) room)) n in
-    (refl, rw (k, x))
+    let x = copied-part (a .at) text (a .room .now) (omega arith) (c .before .before .copy .ensures) in
+    (refl, rw (add-sub-cancel-left (a .at) (length text), x))
 
 pub after-spec : {M : Type 1} → statement M
 after-spec =

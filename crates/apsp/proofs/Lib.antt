@@ -1,0 +1,12 @@
+pub mod Own
+pub mod Sign
+pub mod Before
+pub mod Sums
+pub mod After
+pub mod Amounts
+pub mod Numbers
+pub mod Sealed
+pub mod Whole
+pub mod Result
+pub mod Kept
+pub mod Promises
