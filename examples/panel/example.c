@@ -1,8 +1,8 @@
 /* A start for a board's maker: pack the word P of document 01, run one cycle with it, print the 22 lamp channels. Then
  * add 38, 47 and a carry by the shipped words, a cycle at a time, and look into the adder before each cycle. Then make
  * that addition on two panels, one with the single-cycle button and then the run button, one with the run button alone.
- * Last, read a signed field, write its number back, and read one whose sign is bad. build.sh beside this file builds and
- * runs it.
+ * Then read a signed field, write its number back, and read one whose sign is bad. Last, subtract with signs. build.sh
+ * beside this file builds and runs it.
  */
 #include "../../include/panel.h"
 
@@ -123,6 +123,20 @@ static int signed_fields(void) {
     return refusal == 0 || !same(field, written, sizeof field);
 }
 
+/* 190 - 200 and, by the same fields, 999 + 1: two bytes each, the last digit the sign. */
+static int with_signs(void) {
+    uint8_t fields[4] = {0x19, 0x0C, 0x20, 0x0C};
+    uint8_t full[4] = {0x99, 0x9C, 0x00, 0x1C};
+    uint64_t less = panel_sub_signed(fields, sizeof fields, local_storage, sizeof local_storage, 0, 2, 2);
+    uint64_t more = panel_add_signed(full, sizeof full, local_storage, sizeof local_storage, 0, 2, 2);
+    printf("190C SP 200C = %02X%02X, overflow %u, %u cycles\n", fields[0], fields[1], (unsigned)(less / 65536 % 65536),
+           (unsigned)(less >> 32));
+    printf("999C AP 001C = %02X%02X, overflow %u, %u cycles\n", full[0], full[1], (unsigned)(more / 65536 % 65536),
+           (unsigned)(more >> 32));
+    return less % 256 != PANEL_SUMMED || more % 256 != PANEL_SUMMED;
+}
+
 int main(void) {
-    return one_cycle_of_p() != 0 || shipped_words() != 0 || two_buttons() != 0 || signed_fields() != 0;
+    return one_cycle_of_p() != 0 || shipped_words() != 0 || two_buttons() != 0 || signed_fields() != 0 ||
+           with_signs() != 0;
 }

@@ -145,15 +145,17 @@ static uint64_t called(int call) {
         uint8_t *state = slice(1), *work = slice(1);
         return panel_next_sum(store, count_of(0), state, count_of(1), work, count_of(2));
     }
-    case 8: {
+    case 8:
+    case 12: {
         uint16_t first = (uint16_t)number(), second = (uint16_t)number();
-        uint8_t length = (uint8_t)number(), carry_in = (uint8_t)number();
+        uint8_t length = (uint8_t)number(), on = (uint8_t)number();
         uint8_t *state = slice(1);
-        return panel_start(first, second, length, carry_in, state, count_of(0));
+        return (call == 8 ? panel_start : panel_start_signed)(first, second, length, on, state, count_of(0));
     }
-    case 9: {
+    case 9:
+    case 13: {
         uint64_t *words = slice(8);
-        return panel_shipped(words, count_of(0));
+        return (call == 9 ? panel_shipped : panel_shipped_signed)(words, count_of(0));
     }
     case 10: {
         uint8_t *field = slice(1);
@@ -164,6 +166,13 @@ static uint64_t called(int call) {
         int64_t value = (int64_t)number();
         uint8_t *field = slice(1);
         return panel_write_signed(value, field, count_of(0));
+    }
+    case 14:
+    case 15: {
+        uint8_t *main = slice(1), *local = slice(1);
+        size_t first = number(), second = number(), length = number();
+        return (call == 14 ? panel_add_signed : panel_sub_signed)(main, count_of(0), local, count_of(1), first, second,
+                                                                  length);
     }
     default:
         exit(6);

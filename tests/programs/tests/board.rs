@@ -64,15 +64,31 @@ fn bounds(view: &View) -> Vec<String> {
     from.into_iter().chain(to).collect()
 }
 
-/// An addition, as lines or as lamps, prints what the second engine prints.
-fn adds(first: &str, second: &str, carry: Option<bool>, view: &View) {
-    let mut arguments: Vec<String> = ["add", first, second].map(str::to_owned).into();
-    arguments.extend(carry.map(|carry| u8::from(carry).to_string()));
+/// A command as a view wants it, as lines or as lamps.
+fn viewed(mut arguments: Vec<String>, view: &View) -> Vec<String> {
     arguments.extend(bounds(view));
     if view.lamps {
         arguments.insert(0, "lamps".into());
     }
-    prints(&strs(&arguments), &board::add(first, second, carry == Some(true), view));
+    arguments
+}
+
+/// An addition prints what the second engine prints.
+fn adds(first: &str, second: &str, carry: Option<bool>, view: &View) {
+    let mut arguments: Vec<String> = ["add", first, second].map(str::to_owned).into();
+    arguments.extend(carry.map(|carry| u8::from(carry).to_string()));
+    prints(&strs(&viewed(arguments, view)), &board::add(first, second, carry == Some(true), view));
+}
+
+/// AP and SP, by whether they subtract.
+const SIGNED: [(&str, bool); 2] = [("ap", false), ("sp", true)];
+
+/// AP and SP of two numbers print what the second engine prints.
+fn sums(first: &str, second: &str, view: &View) {
+    for (name, subtract) in SIGNED {
+        let arguments = viewed([name, first, second].map(str::to_owned).into(), view);
+        prints(&strs(&arguments), &board::signed(first, second, subtract, view));
+    }
 }
 
 const NAMES: [&str; 13] = ["I", "J", "U", "V", "L", "T", "D", "R", "S", "G", "H", "M", "N"];
@@ -106,10 +122,7 @@ fn runs(here: &Path, bench: &Bench, budget: u64, view: &View) -> Ending {
     let Files { deck, main } = files(here, &bench.store, &bench.main);
     let mut arguments = vec!["run".to_owned(), deck, main, budget.to_string()];
     arguments.extend(given(&bench.state));
-    arguments.extend(bounds(view));
-    if view.lamps {
-        arguments.insert(0, "lamps".into());
-    }
+    let arguments = viewed(arguments, view);
     let (text, ending) = board::run(&bench.store, &bench.main, bench.state, budget, view);
     let said = board(&strs(&arguments));
     same(&said.out, &text, &strs(&arguments));
@@ -204,29 +217,108 @@ fn bad_digits_are_shown() {
     }
 }
 
-/// The fields' starts, the length of the longer number in bytes and the carry are where the shipped words want them.
+/// The fields' starts, the length of the longer number in bytes, and the carry or SP are where the shipped words want them.
 #[test]
 fn the_state_before_the_first_cycle_is_shown() {
-    let said = board(&["add", "1234567", "1", "1", "TO=0"]);
-    let line = said.text().lines().nth(1).map(str::to_owned);
-    let expected = "      0 --- 01 00 02 00 04 00 00 00 10 00 00 00 00 0000  0   0  0  0  0  0 00";
-    assert_eq!(line.as_deref(), Some(expected));
+    for (arguments, length, s) in [
+        (&["add", "1234567", "1", "1", "TO=0"][..], "04", "10"),
+        (&["ap", "1234567", "1", "TO=0"], "04", "00"),
+        (&["sp", "1", "12345678", "TO=0"], "05", "80"),
+    ] {
+        let line = board(arguments).text().lines().nth(1).map(str::to_owned);
+        let expected = format!("      0 --- 01 00 02 00 {length} 00 00 00 {s} 00 00 00 00 0000  0   0  0  0  0  0 00");
+        assert_eq!(line, Some(expected));
+    }
+}
+
+// ---- AP and SP
+
+/// A number with its sign, in one of the ways in which one is typed. After : any digit may stand.
+fn drawn_sign(random: &mut Random, digits: &str) -> String {
+    match random.below(6) {
+        0 => format!("+{digits}"),
+        1 => format!("-{digits}"),
+        2 => format!("{digits}+"),
+        3 => format!("{digits}-"),
+        4 => format!("{digits}:{}", drawn_digits(random, 1, 22)),
+        _ => digits.to_owned(),
+    }
+}
+
+/// Every count of digits from 1 to 31, as the first and as the second number.
+#[test]
+fn numbers_of_every_length_are_added_and_subtracted() {
+    let random = &mut Random::new(109);
+    for count in 1..=31 {
+        let other = 1 + random.below(31);
+        let base = one_of(random, &[10, 10, 10, 11]);
+        let [long, short] = [count, other].map(|count| drawn_digits(random, count, base));
+        let [long, short] = [long, short].map(|digits| drawn_sign(random, &digits));
+        sums(&long, &short, &View::LINES);
+        sums(&short, &long, &View::LINES);
+    }
+}
+
+/// One digit fewer than two a byte, and the sign: the literal lines, beside the second engine's.
+#[test]
+fn signed_sums_are_printed_with_all_their_digits() {
+    let (nines, zeros) = ("9".repeat(31), "0".repeat(31));
+    let (minus, last) = (format!("{nines}-"), format!("{}8-", "9".repeat(30)));
+    for (name, first, second, line) in [
+        ("ap", "138", "117", "138 AP 117 = 255+"),
+        ("sp", "190", "200", "190 SP 200 = 010-"),
+        ("ap", "190+", "200-", "190+ AP 200- = 010-"),
+        ("sp", "-7", "+07", "-7 SP +07 = 014-"),
+        ("ap", "12:F", "3:b", "12:F AP 3:b = 009+"),
+        ("sp", "5", "5", "5 SP 5 = 0+"),
+        ("ap", "0-", "-0", "0- AP -0 = 0+"),
+        ("ap", "5-", "5-", "5- AP 5- = 0- OVERFLOW"),
+        ("sp", "999", "1-", "999 SP 1- = 000+ OVERFLOW"),
+        ("ap", &nines, &minus, &format!("{nines} AP {minus} = {zeros}+")),
+        ("sp", &minus, &nines, &format!("{minus} SP {nines} = {last} OVERFLOW")),
+    ] {
+        sums(first, second, &View::LINES);
+        ends_with(&board(&[name, first, second]), line);
+    }
+}
+
+/// Digits from A on in any place, and sign digits below A.
+#[test]
+fn bad_digits_and_signs_are_shown() {
+    for (first, second) in [("A", "1"), ("1", "a-"), ("+9f99", "1"), ("190:5", "200"), ("1", "0:0"), ("b:9", "1:c")] {
+        sums(first, second, &View::LINES);
+        for (name, _) in SIGNED {
+            let line = format!("{first} {} {second}: BAD DIGIT OR SIGN", name.to_uppercase());
+            ends_with(&board(&[name, first, second]), &line);
+        }
+    }
 }
 
 // ---- runs
 
-#[test]
-fn the_shipped_deck_runs_as_the_addition_does() {
+/// A shipped program's deck, run over these fields, prints the lines of the command that adds them, but for the last.
+fn runs_as(program: &[&str], fields: [&[u8]; 2], start: State, text: &str) {
     let here = folder("board_shipped");
-    let shipped = said("ship", &[], &[]).out;
     let mut main = vec![0; 1024];
-    [main[0x100], main[0x200]] = [0x38, 0x47];
-    let (deck, main) = (file(&here, "deck", &shipped), file(&here, "main", &main));
-    let start = shipped::start(0x100, 0x200, 1, false);
+    for (at, field) in [0x100, 0x200].into_iter().zip(fields) {
+        main[at..at + field.len()].copy_from_slice(field);
+    }
+    let (deck, main) = (file(&here, "deck", &said("ship", program, &[]).out), file(&here, "main", &main));
     let registers = given(&start);
     let arguments = [&["run", &deck, &main, "1000"], &strs(&registers)[..]].concat();
-    let sum = board::add("38", "47", false, &View::LINES);
-    prints(&arguments, sum.strip_suffix("38 + 47 = 85 CARRY 0\n").expect("its last line"));
+    let (lines, _) = text.trim_end().rsplit_once('\n').expect("a line before the last");
+    prints(&arguments, &format!("{lines}\n"));
+}
+
+#[test]
+fn the_shipped_decks_run_as_the_commands_do() {
+    let start = shipped::start(0x100, 0x200, 1, false);
+    runs_as(&[], [&[0x38], &[0x47]], start, &board::add("38", "47", false, &View::LINES));
+    for (_, subtract) in SIGNED {
+        let start = shipped::start_apsp(0x100, 0x200, 2, subtract);
+        let fields: [&[u8]; 2] = [&[0x19, 0x0C], &[0x20, 0x0D]];
+        runs_as(&["apsp"], fields, start, &board::signed("190", "200-", subtract, &View::LINES));
+    }
 }
 
 /// A bench of which every part that the command line gives is drawn. Half of the stores have nothing but words that run.
@@ -396,6 +488,7 @@ fn only_the_cycles_asked_for_are_shown() {
             let view = View { lamps, from, to };
             adds("38", "47", None, &view);
             adds("38", "47", Some(true), &view);
+            sums("38", "47", &view);
             runs(&here, &endless(), 18, &view);
         }
     }
@@ -408,6 +501,8 @@ fn from_and_to_stand_in_either_order_and_in_small_letters() {
     let text = board::add("38", "47", false, &View { from: 5, to: 7, ..View::LINES });
     prints(&["add", "38", "47", "TO=7", "FROM=5"], &text);
     prints(&["add", "38", "47", "from=5", "to=7"], &text);
+    let text = board::signed("38", "47", true, &View { from: 5, to: 7, ..View::LINES });
+    prints(&["sp", "38", "47", "to=7", "FROM=5"], &text);
     let (here, mut bench) = (folder("board_order"), endless());
     let Files { deck, main } = files(&here, &bench.store, &bench.main);
     bench.set(&[(M, 0x11), (N, 0x22)]);
@@ -421,6 +516,8 @@ fn from_over_to_is_told() {
     tells(&["add", "38", "47", "FROM=2", "TO=1"], "FROM is over TO");
     tells(&["add", "38", "47", "TO=0", "FROM=1"], "FROM is over TO");
     tells(&["lamps", "add", "38", "47", "1", "FROM=2", "TO=1"], "FROM is over TO");
+    tells(&["ap", "38", "47", "FROM=2", "TO=1"], "FROM is over TO");
+    tells(&["lamps", "sp", "38", "47", "TO=1", "FROM=2"], "FROM is over TO");
     tells(&["run", &deck, &main, "9", "FROM=1000000", "TO=999999"], "FROM is over TO");
 }
 
@@ -430,6 +527,9 @@ fn from_over_to_is_told() {
 fn lamps_show_additions() {
     for (first, second, carry) in [("38", "47", None), ("999", "1", Some(true)), ("7", "c", Some(false))] {
         adds(first, second, carry, &View::LAMPS);
+    }
+    for (first, second) in [("190", "200"), ("999-", "1-"), ("7:3", "c")] {
+        sums(first, second, &View::LAMPS);
     }
 }
 
@@ -617,7 +717,7 @@ fn usage_is_shown_in_each_spelling() {
 fn usage_names_all_that_can_be_given() {
     let usage = board(&["help"]).text();
     let words: BTreeSet<&str> = usage.split(|c: char| !c.is_ascii_alphanumeric()).collect();
-    for word in ["add", "run", "lamps", "walk", "signed", "WX", "FROM", "TO"].iter().chain(&NAMES) {
+    for word in ["add", "ap", "sp", "run", "lamps", "walk", "signed", "WX", "FROM", "TO"].iter().chain(&NAMES) {
         assert!(words.contains(word), "{word}");
     }
     for part in ["digits A to F are allowed", "bad-digit ending"] {
@@ -636,9 +736,13 @@ fn a_missing_argument_is_told_by_its_number() {
     };
     for all in [
         &["add", "38"][..],
+        &["ap", "38"],
+        &["sp", "38-"],
         &["signed"],
         &["run", &deck, &main],
         &["lamps", "add", "38"],
+        &["lamps", "ap", "38"],
+        &["lamps", "sp", "38-"],
         &["lamps", "run", &deck, &main],
     ] {
         for count in 1..=all.len() {
@@ -656,13 +760,14 @@ fn an_argument_too_many_is_told() {
 
 #[test]
 fn a_command_that_is_not_there_is_told() {
-    for name in ["frob", "", "ad", "adds", "1", "-x", "FROM=1"] {
-        tells(&[name], "argument 1 is neither add, run, lamps, walk, signed nor help");
-        tells(&[name, "38", "47"], "argument 1 is neither add, run, lamps, walk, signed nor help");
+    let line = "argument 1 is neither add, ap, sp, run, lamps, walk, signed nor help";
+    for name in ["frob", "", "ad", "adds", "a", "AP", "aps", "apsp", "s", "1", "-x", "FROM=1"] {
+        tells(&[name], line);
+        tells(&[name, "38", "47"], line);
     }
-    for name in ["walk", "help", "lamps", "", "frob"] {
-        tells(&["lamps", name], "argument 2 is neither add nor run");
-        tells(&["lamps", name, "38", "47"], "argument 2 is neither add nor run");
+    for name in ["walk", "help", "lamps", "signed", "", "frob"] {
+        tells(&["lamps", name], "argument 2 is neither add, ap, sp nor run");
+        tells(&["lamps", name, "38", "47"], "argument 2 is neither add, ap, sp nor run");
     }
 }
 
@@ -673,6 +778,66 @@ fn a_number_that_is_none_is_told() {
         tells(&["add", number, "47"], "argument 2 is not a number of 1 to 32 digits");
         tells(&["add", "38", number], "argument 3 is not a number of 1 to 32 digits");
         tells(&["lamps", "add", "38", number, "1"], "argument 4 is not a number of 1 to 32 digits");
+    }
+}
+
+/// No digit, no sign digit, two signs, or 32 digits.
+#[test]
+fn a_signed_number_that_is_none_is_told() {
+    let line = "is not a number of 1 to 31 digits, with + or - before or after them, or : and a sign digit";
+    let long = "1".repeat(32);
+    let [plus, minus, other] = [format!("+{long}"), format!("{long}-"), format!("{long}:F")];
+    for number in [
+        "",
+        "+",
+        "-",
+        ":",
+        "+-",
+        "--1",
+        "+1-",
+        "1--",
+        ":C",
+        "1:",
+        "1:G",
+        "1:CC",
+        "1::C",
+        "+1:C",
+        "1:+",
+        "1 -",
+        "- 1",
+        "1-1",
+        "G",
+        "0x38",
+        "3.8",
+        " 38",
+        "38 ",
+        "FROM=1",
+        "é",
+        &long,
+        &plus,
+        &minus,
+        &other,
+        &"0".repeat(5000),
+    ] {
+        for (name, _) in SIGNED {
+            tells(&[name, number, "47"], &format!("argument 2 {line}"));
+            tells(&[name, "38", number], &format!("argument 3 {line}"));
+            tells(&["lamps", name, "38", number, "TO=1"], &format!("argument 4 {line}"));
+        }
+    }
+}
+
+/// No carry is taken with signs.
+#[test]
+fn what_ap_and_sp_do_not_know_is_told() {
+    for (name, _) in SIGNED {
+        for argument in ["0", "1", "", "x", "FROM", "TO=", "FROM=x", "I=1"] {
+            let all = ["lamps", name, "38", "47", "TO=9", argument];
+            tells(&[name, "38", "47", argument], "argument 4 is neither FROM=n nor TO=n");
+            tells(&all[1..], "argument 5 is neither FROM=n nor TO=n");
+            tells(&all, "argument 6 is neither FROM=n nor TO=n");
+        }
+        tells(&[name, "38", "47", "FROM=1", "FROM=1"], "argument 5 was given before");
     }
 }
 
@@ -886,6 +1051,8 @@ fn a_write_that_fails_is_told_once() {
         &["add", "38", "47"],
         &["add", "38", "A"],
         &["lamps", "add", "38", "47"],
+        &["sp", "38", "47"],
+        &["ap", "38", "A"],
         &["run", &deck, &main, "0"],
         &["run", &deck, &main, "9"],
         &["run", &deck, &main, "100000"],

@@ -64,8 +64,22 @@ fn signed_fields() -> String {
     text + &format!("field {bad:016X} is refused by {refusal}, and the number stays {}\n", number[0])
 }
 
+/// What it prints of two fields of two bytes: the first field afterwards, the overflow and the cycles.
+fn with_signs() -> String {
+    let sum = |name: &str, fields: [u8; 4]| {
+        let (mut main, local) = (fields, &mut [0; 256]);
+        let of = if name == "SP" { panel::sub_signed } else { panel::add_signed };
+        let answer = of(&mut main, local, 0, 2, 2);
+        assert_eq!(answer & 0xFFFF, panel::SUMMED);
+        let [a, b, c, d] = fields;
+        let result = format!("{:02X}{:02X}, overflow {}", main[0], main[1], answer >> 16 & 0xFFFF);
+        format!("{a:02X}{b:02X} {name} {c:02X}{d:02X} = {result}, {} cycles\n", answer >> 32)
+    };
+    sum("SP", [0x19, 0x0C, 0x20, 0x0C]) + &sum("AP", [0x99, 0x9C, 0x00, 0x1C])
+}
+
 fn shows_the_example(said: &Said) {
-    let text = cycle_of_p() + &cycles_of_the_sum() + &buttons() + &signed_fields();
+    let text = cycle_of_p() + &cycles_of_the_sum() + &buttons() + &signed_fields() + &with_signs();
     assert_eq!((said.text(), said.status), (text, Some(0)), "{}", said.err);
 }
 
@@ -131,13 +145,13 @@ fn gcc_links_the_example() {
     }
 }
 
-/// Every function once, from C++, and what each answers. All but the last two refuse.
+/// Every function once, from C++, and what each answers. All but the last four refuse.
 const ALL: &str = "#include <panel.h>
 #include <cstdio>
 int main() {
-    uint64_t words[21] = {};
+    uint64_t words[55] = {};
     int64_t number[1] = {};
-    uint8_t bytes[18] = {}, main[1] = {}, local[1] = {}, state[PANEL_STATE] = {}, work[PANEL_WORK] = {};
+    uint8_t bytes[18] = {}, main[1] = {}, local[1] = {}, all[256] = {}, state[PANEL_STATE] = {}, work[PANEL_WORK] = {};
     std::printf(\"%u \", panel_take_apart(0, 0, bytes, 17));
     std::printf(\"%u \", panel_pack(bytes, 17, 0, words, 1));
     std::printf(\"%u \", panel_cycle(words, 21, main, 1, local, 1, state, PANEL_STATE) / 256);
@@ -148,8 +162,12 @@ int main() {
     std::printf(\"%u \", panel_write_deck(words, 0, bytes, 1) / 65536);
     std::printf(\"%u \", panel_read_signed(bytes, 8, number, 1));
     std::printf(\"%u \", panel_write_signed(1000000000000000, bytes, 8));
+    std::printf(\"%u \", unsigned(panel_add_signed(main, 1, local, 1, 0, 0, 1) / 256));
+    std::printf(\"%u \", unsigned(panel_sub_signed(main, 1, all, 256, 0, 0, 0) / 256));
     std::printf(\"%u \", panel_start(0, 0, 1, 0, state, PANEL_STATE));
-    std::printf(\"%u\\n\", panel_shipped(words, 21));
+    std::printf(\"%u \", panel_shipped(words, 21));
+    std::printf(\"%u \", panel_start_signed(0, 0, 1, 0, state, PANEL_STATE));
+    std::printf(\"%u\\n\", panel_shipped_signed(words, 55));
 }
 ";
 
@@ -157,6 +175,7 @@ int main() {
 fn gpp_links_every_function() {
     let source = file(&folder("gpp_source"), "all.cpp", ALL.as_bytes());
     if let Some(said) = linked("g++", &source, "gpp") {
-        assert_eq!((said.text().as_str(), said.status), ("19 19 1 19 1 1 15 21 26 27 0 21\n", Some(0)), "{}", said.err);
+        let text = "19 19 1 19 1 1 15 21 26 27 1 12 0 21 0 55\n";
+        assert_eq!((said.text().as_str(), said.status), (text, Some(0)), "{}", said.err);
     }
 }

@@ -1,4 +1,4 @@
-//! The lister and the program that ships the decimal add's deck, on decks of every length and refusal.
+//! The lister, on decks of every length and refusal, and the program that ships decks.
 
 #[path = "../../second/tests/common/mod.rs"]
 mod common;
@@ -9,7 +9,7 @@ use programs::{
 use second::deck::{words_of, BLOCK, LONGEST};
 use second::lister::list;
 use second::random::Random;
-use second::shipped::SHIPPED;
+use second::shipped::{APSP, SHIPPED};
 
 fn good_deck(words: usize) -> Vec<u8> {
     deck_of(&common::draw_words(&mut Random::new(3 + words as u64), words))
@@ -98,12 +98,26 @@ fn a_read_that_fails_half_way_is_told() {
 #[test]
 fn a_write_that_fails_is_told() {
     told(&said_to_full("lister", &[], &good_deck(1)), "lister: the text was not written\n");
-    told(&said_to_full("ship", &[], &[]), "ship: the deck was not written\n");
+    for arguments in [&[][..], &["add"], &["apsp"]] {
+        told(&said_to_full("ship", arguments, &[]), "ship: the deck was not written\n");
+    }
 }
 
 #[test]
-fn the_shipped_deck_has_the_shipped_words() {
-    let said = said("ship", &[], &[]);
-    assert!(said.well(), "{said:?}");
-    assert_eq!(said.out, deck_of(&SHIPPED));
+fn the_shipped_decks_have_the_shipped_words() {
+    for (arguments, words) in [(&[][..], &SHIPPED[..]), (&["add"], &SHIPPED), (&["apsp"], &APSP)] {
+        let said = said("ship", arguments, &[]);
+        assert!(said.well(), "{said:?}");
+        assert_eq!(said.out, deck_of(words), "{arguments:?}");
+    }
+}
+
+#[test]
+fn what_ship_does_not_know_is_told() {
+    for name in ["", "ad", "adds", "ap", "sp", "APSP", "apsp ", "apspapsp", "apspapspapsp", "help"] {
+        told(&said("ship", &[name], &[]), "ship: argument 1 is neither add nor apsp\n");
+    }
+    for arguments in [&["add", "apsp"][..], &["apsp", ""], &["x", "y", "z"]] {
+        told(&said("ship", arguments, &[]), "ship: argument 2 is one too many\n");
+    }
 }

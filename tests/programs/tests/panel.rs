@@ -7,13 +7,81 @@ mod common;
 use common::{any_word, chosen_numbers, each_occurs, lent, lent_to_go_on, one_of, Bench, Kind, Lent, LEAST, MOST};
 use programs::{folder, root, run, Said};
 use second::deck::{block_check, write_deck, BLOCK, LONGEST};
-use second::panel::{self, RAN, REFUSED, SPENT, STOPPED};
+use second::panel::{self, BAD_DIGIT, RAN, REFUSED, SPENT, STOPPED, SUMMED};
 use second::random::Random;
+use second::shipped::{APSP, BAD_AT, DONE_AT, SHIPPED, SUMMED_AT};
 use second::word::{build, index_of, pack, Fields, GIVEN, LAYOUT};
 use std::collections::BTreeSet;
 use std::path::PathBuf;
 use std::process::Command;
 use std::sync::LazyLock;
+
+/// A shipped program: the decimal add, or AP and SP.
+#[derive(Clone, Copy, Debug)]
+enum Program {
+    Add,
+    Signed,
+}
+
+const PROGRAMS: [Program; 2] = [Program::Add, Program::Signed];
+
+impl Program {
+    /// What the program does where the last byte of its start is this, "off at 0, on otherwise".
+    fn operation(self, on: u8) -> Operation {
+        match self {
+            Program::Add => Operation::Add { carry: on },
+            Program::Signed if on == 0 => Operation::AddSigned,
+            Program::Signed => Operation::SubSigned,
+        }
+    }
+
+    fn words(self) -> &'static [u64] {
+        match self {
+            Program::Add => &SHIPPED,
+            Program::Signed => &APSP,
+        }
+    }
+
+    /// The word at which a run that summed stops, and those of a bad digit or sign.
+    fn stops(self) -> (u16, &'static [u16]) {
+        match self {
+            Program::Add => (SUMMED_AT, &BAD_AT[..2]),
+            Program::Signed => (DONE_AT, &BAD_AT),
+        }
+    }
+
+    fn start(self, first: u16, second: u16, length: u8, on: u8, state: &mut [u8]) -> u64 {
+        match self {
+            Program::Add => panel::start(first, second, length, on, state),
+            Program::Signed => panel::start_signed(first, second, length, on, state),
+        }
+    }
+
+    fn shipped(self, words: &mut [u64]) -> u64 {
+        match self {
+            Program::Add => panel::shipped(words),
+            Program::Signed => panel::shipped_signed(words),
+        }
+    }
+}
+
+/// What is done with two fields: added with a carry, or added or subtracted with signs.
+#[derive(Clone, Copy, Debug, PartialEq, Eq, PartialOrd, Ord)]
+enum Operation {
+    Add { carry: u8 },
+    AddSigned,
+    SubSigned,
+}
+
+impl Operation {
+    fn make(self, main: &mut [u8], local: &mut [u8], first: usize, second: usize, length: usize) -> u64 {
+        match self {
+            Operation::Add { carry } => panel::add(main, local, first, second, length, carry),
+            Operation::AddSigned => panel::add_signed(main, local, first, second, length),
+            Operation::SubSigned => panel::sub_signed(main, local, first, second, length),
+        }
+    }
+}
 
 /// A call with all it is lent.
 #[derive(Clone, Debug)]
@@ -22,12 +90,12 @@ enum Call {
     Pack { fields: Vec<u8>, address: u32, word: Vec<u64> },
     Cycle { store: Vec<u64>, main: Vec<u8>, local: Vec<u8>, state: Vec<u8> },
     Run { store: Vec<u64>, main: Vec<u8>, local: Vec<u8>, state: Vec<u8>, budget: u32 },
-    Add { main: Vec<u8>, local: Vec<u8>, first: usize, second: usize, length: usize, carry: u8 },
+    Sum { operation: Operation, main: Vec<u8>, local: Vec<u8>, first: usize, second: usize, length: usize },
     ReadDeck { deck: Vec<u8>, words: Vec<u64> },
     WriteDeck { words: Vec<u64>, deck: Vec<u8> },
     NextSum { store: Vec<u64>, state: Vec<u8>, work: Vec<u8> },
-    Start { first: u16, second: u16, length: u8, carry: u8, state: Vec<u8> },
-    Shipped { words: Vec<u64> },
+    Start { program: Program, first: u16, second: u16, length: u8, on: u8, state: Vec<u8> },
+    Shipped { program: Program, words: Vec<u64> },
     ReadSigned { field: Vec<u8>, room: Vec<i64> },
     WriteSigned { number: i64, field: Vec<u8> },
 }
@@ -45,6 +113,10 @@ impl Message {
     fn number(mut self, number: u64) -> Message {
         self.0.extend(number.to_le_bytes());
         self
+    }
+
+    fn numbers(self, numbers: impl IntoIterator<Item = u64>) -> Message {
+        numbers.into_iter().fold(self, Message::number)
     }
 
     fn elements(mut self, bytes: &[u8]) -> Message {
@@ -79,23 +151,28 @@ impl Call {
             Call::Run { store, main, local, state, budget } => {
                 called(3).words(store).bytes(main).bytes(local).bytes(state).number((*budget).into())
             }
-            Call::Add { main, local, first, second, length, carry } => called(4)
-                .bytes(main)
-                .bytes(local)
-                .number(*first as u64)
-                .number(*second as u64)
-                .number(*length as u64)
-                .number((*carry).into()),
+            Call::Sum { operation, main, local, first, second, length } => {
+                let (number, carry) = match operation {
+                    Operation::Add { carry } => (4, Some(*carry)),
+                    Operation::AddSigned => (14, None),
+                    Operation::SubSigned => (15, None),
+                };
+                let places = [first, second, length].map(|place| *place as u64);
+                called(number).bytes(main).bytes(local).numbers(places).numbers(carry.map(u64::from))
+            }
             Call::ReadDeck { deck, words } => called(5).bytes(deck).words(words),
             Call::WriteDeck { words, deck } => called(6).words(words).bytes(deck),
             Call::NextSum { store, state, work } => called(7).words(store).bytes(state).bytes(work),
-            Call::Start { first, second, length, carry, state } => called(8)
-                .number((*first).into())
-                .number((*second).into())
-                .number((*length).into())
-                .number((*carry).into())
-                .bytes(state),
-            Call::Shipped { words } => called(9).words(words),
+            Call::Start { program, first, second, length, on, state } => {
+                let number = match program {
+                    Program::Add => 8,
+                    Program::Signed => 12,
+                };
+                let places = [first, second].map(|place| u64::from(*place));
+                called(number).numbers(places).numbers([length, on].map(|byte| u64::from(*byte))).bytes(state)
+            }
+            Call::Shipped { program: Program::Add, words } => called(9).words(words),
+            Call::Shipped { program: Program::Signed, words } => called(13).words(words),
             Call::ReadSigned { field, room } => called(10).bytes(field).words(&unsigned(room)),
             Call::WriteSigned { number, field } => called(11).number(*number as u64).bytes(field),
         }
@@ -109,16 +186,16 @@ impl Call {
             Call::Pack { fields, address, word } => panel::pack(fields, *address, word),
             Call::Cycle { store, main, local, state } => panel::one_cycle(store, main, local, state),
             Call::Run { store, main, local, state, budget } => panel::run_for(store, main, local, state, *budget),
-            Call::Add { main, local, first, second, length, carry } => {
-                panel::add(main, local, *first, *second, *length, *carry)
+            Call::Sum { operation, main, local, first, second, length } => {
+                operation.make(main, local, *first, *second, *length)
             }
             Call::ReadDeck { deck, words } => panel::read_deck(deck, words),
             Call::WriteDeck { words, deck } => panel::write_deck(words, deck),
             Call::NextSum { store, state, work } => panel::next_sum(store, state, work),
-            Call::Start { first, second, length, carry, state } => {
-                panel::start(*first, *second, *length, *carry, state)
+            Call::Start { program, first, second, length, on, state } => {
+                program.start(*first, *second, *length, *on, state)
             }
-            Call::Shipped { words } => panel::shipped(words),
+            Call::Shipped { program, words } => program.shipped(words),
             Call::ReadSigned { field, room } => panel::read_signed(field, room),
             Call::WriteSigned { number, field } => panel::write_signed(*number, field),
         }
@@ -133,12 +210,12 @@ impl Call {
             Call::Cycle { store, main, local, state } | Call::Run { store, main, local, state, .. } => {
                 message.wide(store).elements(main).elements(local).elements(state)
             }
-            Call::Add { main, local, .. } => message.elements(main).elements(local),
+            Call::Sum { main, local, .. } => message.elements(main).elements(local),
             Call::ReadDeck { deck, words } => message.elements(deck).wide(words),
             Call::WriteDeck { words, deck } => message.wide(words).elements(deck),
             Call::NextSum { store, state, work } => message.wide(store).elements(state).elements(work),
             Call::Start { state, .. } => message.elements(state),
-            Call::Shipped { words } => message.wide(words),
+            Call::Shipped { words, .. } => message.wide(words),
             Call::ReadSigned { field, room } => message.elements(field).wide(&unsigned(room)),
             Call::WriteSigned { field, .. } => message.elements(field),
         }
@@ -152,7 +229,7 @@ impl Call {
             Call::ReadSigned { .. } | Call::WriteSigned { .. } => answer != 0,
             Call::Cycle { .. } => answer & 0xFF != 0,
             Call::Run { .. } => answer >> 32 == 0,
-            Call::Add { .. } => answer & 0xFF == 2,
+            Call::Sum { .. } => answer & 0xFF != SUMMED,
             Call::ReadDeck { .. } | Call::WriteDeck { .. } | Call::Shipped { .. } => answer >> 16 != 0,
         }
     }
@@ -471,35 +548,135 @@ fn digits(random: &mut Random, count: usize) -> Vec<u8> {
     bytes
 }
 
+/// The sign in the last place.
+fn with_sign(mut field: Vec<u8>, sign: u8) -> Vec<u8> {
+    if let Some(last) = field.last_mut() {
+        *last = *last & 0xF0 | sign;
+    }
+    field
+}
+
+/// A sign mostly good.
+fn draw_sign(random: &mut Random) -> u8 {
+    if random.below(8) == 0 {
+        random.below(16) as u8
+    } else {
+        10 + random.below(6) as u8
+    }
+}
+
+/// Nothing, one, nines, or digits of which one may be over 9. The sign's place is not one of these.
+fn draw_size(random: &mut Random, length: usize) -> Vec<u8> {
+    match random.below(8) {
+        0 => vec![0; length],
+        1 => (1..=length).map(|place| if place == length { 0x10 } else { 0 }).collect(),
+        2..=3 => vec![0x99; length],
+        _ => digits(random, length),
+    }
+}
+
+/// Two fields, of which the second may have the digits of the first, with signs where the operation wants them.
+fn draw_pair(random: &mut Random, operation: Operation, length: usize) -> [Vec<u8>; 2] {
+    let (first, other) = (draw_size(random, length), draw_size(random, length));
+    let second = if random.below(6) == 0 { first.clone() } else { other };
+    match operation {
+        Operation::Add { .. } => [first, second],
+        _ => [first, second].map(|size| with_sign(size, draw_sign(random))),
+    }
+}
+
+/// Digits, and among them the two fields, as far as main storage has room for both.
+fn draw_main(random: &mut Random, operation: Operation, size: usize, starts: [usize; 2], length: usize) -> Vec<u8> {
+    let mut main = digits(random, size);
+    let inside = |start: usize| start.checked_add(length).is_some_and(|end| end <= size);
+    if starts.into_iter().all(inside) {
+        for (start, field) in starts.into_iter().zip(draw_pair(random, operation, length)) {
+            main[start..start + length].copy_from_slice(&field);
+        }
+    }
+    main
+}
+
+/// Where a field starts in so many bytes: mostly not far in, else near their end, seldom as far as numbers go.
+fn draw_start(random: &mut Random, size: usize) -> usize {
+    match random.below(32) {
+        0 => usize::MAX - random.below(20) as usize,
+        1..=4 => size.saturating_sub(random.below(20) as usize),
+        _ => random.below(size.clamp(40, 300) as u64) as usize,
+    }
+}
+
+/// A length mostly good.
+fn draw_length(random: &mut Random) -> usize {
+    let (good, short) = (1 + random.below(16) as usize, 1 + random.below(3) as usize);
+    one_of(random, &[good, good, good, good, good, good, short, short, short, 0, 17, usize::MAX])
+}
+
+/// An operation on two fields of which any size or place may be wrong.
+fn draw_sum(random: &mut Random, operation: Operation) -> Call {
+    let size = one_of(random, &[48, 48, 300, 300, 300, 300, 300, 300, 300, 1, 0, 65536, 65537]);
+    let local = one_of(random, &[256, 256, 256, 256, 256, 256, 255, 257]);
+    let (first, other) = (draw_start(random, size), draw_start(random, size));
+    let second = if random.below(6) == 0 { first } else { other };
+    let length = draw_length(random);
+    let main = draw_main(random, operation, size, [first, second], length);
+    Call::Sum { operation, main, local: bytes(random, local), first, second, length }
+}
+
+/// Drawn sums agree. Every length ends with and without a carry or overflow, and by a bad digit; each refusal is seen.
+fn sums_agree(calls: &[Call]) {
+    let answers = agree(calls);
+    assert_eq!(refusals(&answers, 8), BTreeSet::from([1, 12, 13, 14]));
+    let mut seen = BTreeSet::new();
+    for (call, answer) in calls.iter().zip(answers) {
+        let Call::Sum { length, .. } = call else { unreachable!() };
+        if answer & 0xFF != REFUSED {
+            seen.insert((*length, ending(answer)));
+        }
+    }
+    let endings = [SUMMED, SUMMED + 65536, BAD_DIGIT];
+    assert_eq!(seen, (1..=16).flat_map(|length| endings.map(|ending| (length, ending))).collect());
+}
+
+const CARRIES: [u8; 5] = [0, 1, 2, 200, 255];
+
+fn draw_add(random: &mut Random) -> Operation {
+    Operation::Add { carry: one_of(random, &CARRIES) }
+}
+
 #[test]
 fn decimal_adds() {
     let random = &mut Random::new(89);
-    let calls: Vec<Call> = (0..8000)
-        .map(|_| {
-            let size: usize = one_of(random, &[48, 48, 48, 300, 300, 1, 0, 65536, 65537]);
-            let start = |random: &mut Random| match random.below(16) {
-                0 => usize::MAX - random.below(20) as usize,
-                1..=3 => size.saturating_sub(random.below(20) as usize),
-                _ => random.below(40) as usize,
-            };
-            let (first, other) = (start(random), start(random));
-            Call::Add {
-                main: digits(random, size),
-                local: bytes(random, one_of(&mut random.clone(), &[256, 256, 256, 256, 256, 256, 255, 257])),
-                first,
-                second: if random.below(6) == 0 { first } else { other },
-                length: one_of(random, &[0, 1, 1, 2, 2, 3, 8, 15, 16, 16, 17, usize::MAX]),
-                carry: one_of(random, &[0, 0, 1, 2, 255]),
-            }
-        })
-        .collect();
-    let answers = agree(&calls);
-    assert_eq!(refusals(&answers, 8), BTreeSet::from([1, 12, 13, 14]));
-    let endings: BTreeSet<u64> = answers.iter().map(|answer| answer & 0xFF_FF_FF).collect();
-    assert!(
-        endings.is_superset(&BTreeSet::from([4, 65536 + 4, 5])),
-        "summed with and without a carry, and a bad digit"
-    );
+    let draw = |_| {
+        let operation = draw_add(random);
+        draw_sum(random, operation)
+    };
+    sums_agree(&(0..8000).map(draw).collect::<Vec<Call>>());
+}
+
+#[test]
+fn signed_adds_and_subtracts() {
+    let random = &mut Random::new(157);
+    for operation in [Operation::AddSigned, Operation::SubSigned] {
+        sums_agree(&(0..8000).map(|_| draw_sum(random, operation)).collect::<Vec<Call>>());
+    }
+}
+
+/// Two fields of one byte beside each other, or one field of one byte.
+#[test]
+fn every_byte_by_every_other_with_signs() {
+    let local = vec![0x5A; 256];
+    for operation in [Operation::AddSigned, Operation::SubSigned] {
+        let sum =
+            |main: Vec<u8>, second| Call::Sum { operation, main, local: local.clone(), first: 0, second, length: 1 };
+        let pairs = (0..=u16::MAX).map(|pair| sum(pair.to_be_bytes().to_vec(), 1));
+        let calls: Vec<Call> = pairs.chain((0..=u8::MAX).map(|byte| sum(vec![byte], 0))).collect();
+        let answers = agree(&calls);
+        let ends = |wanted| answers.iter().filter(|answer| ending(**answer) == wanted).count();
+        // Sixty of the bytes are a digit and a sign.
+        assert_eq!(ends(SUMMED) + ends(SUMMED + 65536), 60 * 60 + 60);
+        assert_eq!(ends(BAD_DIGIT), 65_536 - 60 * 60 + 256 - 60);
+    }
 }
 
 /// The check of a block made right again.
@@ -738,76 +915,94 @@ fn an_arriving_byte_is_in_the_work() {
     }
 }
 
-const CARRIES: [u8; 5] = [0, 1, 2, 200, 255];
-
 #[test]
 fn starts() {
     let random = &mut Random::new(113);
-    let mut calls: Vec<Call> = (0..6000)
-        .map(|_| {
-            let (first, second, length) = (random.next() as u16, random.next() as u16, random.next() as u8);
-            let room = one_of(random, &[0, 21, 22, 22, 22, 22, 23, 40]);
-            Call::Start { first, second, length, carry: one_of(random, &CARRIES), state: bytes(random, room) }
-        })
-        .collect();
-    for (length, carry) in (0..=255).flat_map(|length| CARRIES.map(|carry| (length, carry))) {
-        calls.push(Call::Start { first: 0xFFFF, second: 0x8000, length, carry, state: vec![0xEE; 22] });
+    for program in PROGRAMS {
+        let mut calls: Vec<Call> = (0..6000)
+            .map(|_| {
+                let (first, second, length) = (random.next() as u16, random.next() as u16, random.next() as u8);
+                let (on, room) = (one_of(random, &CARRIES), one_of(random, &[0, 21, 22, 22, 22, 22, 23, 40]));
+                Call::Start { program, first, second, length, on, state: bytes(random, room) }
+            })
+            .collect();
+        for (length, on) in (0..=255).flat_map(|length| CARRIES.map(|on| (length, on))) {
+            calls.push(Call::Start { program, first: 0xFFFF, second: 0x8000, length, on, state: vec![0xEE; 22] });
+        }
+        assert_eq!(BTreeSet::from_iter(agree(&calls)), BTreeSet::from([0, 19]));
     }
-    assert_eq!(BTreeSet::from_iter(agree(&calls)), BTreeSet::from([0, 19]));
 }
 
-/// The addresses in I, J, U and V, the length in L, the carry in S3, all else zero, and what is past the record left.
+/// The addresses in I, J, U and V, the length in L, the carry in S3 or SP in S0, all else zero, and what is past the record
+/// left.
 #[test]
 fn a_start_by_hand() {
-    for (carry, s) in [(0, 0), (1, 0x10), (200, 0x10)] {
-        let mut state = [0xEE; 30];
-        agree(&[Call::Start { first: 0x1234, second: 0xABCD, length: 16, carry, state: state.to_vec() }]);
-        assert_eq!(panel::start(0x1234, 0xABCD, 16, carry, &mut state), 0);
-        let mut expected = [0; 30];
-        expected[..9].copy_from_slice(&[0x12, 0x34, 0xAB, 0xCD, 16, 0, 0, 0, s]);
-        expected[22..].fill(0xEE);
-        assert_eq!(state, expected);
+    for (program, latch) in [(Program::Add, 0x10), (Program::Signed, 0x80)] {
+        for (on, s) in [(0, 0), (1, latch), (200, latch)] {
+            let mut state = [0xEE; 30];
+            agree(&[Call::Start { program, first: 0x1234, second: 0xABCD, length: 16, on, state: state.to_vec() }]);
+            assert_eq!(program.start(0x1234, 0xABCD, 16, on, &mut state), 0);
+            let mut expected = [0; 30];
+            expected[..9].copy_from_slice(&[0x12, 0x34, 0xAB, 0xCD, 16, 0, 0, 0, s]);
+            expected[22..].fill(0xEE);
+            assert_eq!(state, expected);
+        }
     }
 }
 
 #[test]
 fn the_shipped_words() {
     let random = &mut Random::new(127);
-    let rooms = [0, 1, 20, 21, 22, 4096];
-    let calls = rooms.map(|room| Call::Shipped { words: (0..room).map(|_| random.next()).collect() });
-    assert_eq!(agree(&calls), [65_536 * 19, 65_536 * 19, 65_536 * 19, 21, 21, 21]);
+    for program in PROGRAMS {
+        let count = program.words().len();
+        let rooms = [0, 1, count - 1, count, count + 1, 4096];
+        let calls = rooms.map(|room| Call::Shipped { program, words: (0..room).map(|_| random.next()).collect() });
+        let (short, words) = (65_536 * 19, count as u64);
+        assert_eq!(agree(&calls), [short, short, short, words, words, words]);
+    }
 }
 
-/// A decimal add, and the run of the shipped words from its start over the same storage.
-fn add_and_run(random: &mut Random) -> [Call; 2] {
-    let (mut words, mut state) = (vec![0; 21], vec![0; 22]);
-    let (main, local) = (digits(random, 64), bytes(random, 256));
-    let (first, second, length) = (random.below(16), 32 + random.below(16), 1 + random.below(16));
-    let carry = one_of(random, &CARRIES);
-    assert_eq!(panel::shipped(&mut words), 21);
-    assert_eq!(panel::start(first as u16, second as u16, length as u8, carry, &mut state), 0);
+/// A call of an entry, and the run of its program's words from its start over the same storage.
+fn sum_and_run(random: &mut Random, program: Program) -> [Call; 2] {
+    let (mut words, mut state) = (program.words().to_vec(), vec![0; 22]);
+    let (starts, length) =
+        ([random.below(16), 32 + random.below(16)].map(|start| start as usize), 1 + random.below(16));
+    let on = one_of(random, &CARRIES);
+    let operation = program.operation(on);
+    let (main, local) = (draw_main(random, operation, 64, starts, length as usize), bytes(random, 256));
+    assert_eq!(program.shipped(&mut words), words.len() as u64);
+    assert_eq!(program.start(starts[0] as u16, starts[1] as u16, length as u8, on, &mut state), 0);
     let run = Call::Run { store: words, main: main.clone(), local: local.clone(), state, budget: 1_000_000 };
-    let add = Call::Add { main, local, first: first as usize, second: second as usize, length: length as usize, carry };
-    [add, run]
+    let [first, second] = starts;
+    [Call::Sum { operation, main, local, first, second, length: length as usize }, run]
 }
 
-/// Both storages, once the call is made.
-fn storage_after(mut call: Call) -> [Vec<u8>; 2] {
+/// Both storages, once the call is made, and WX where it has one.
+fn left_by(mut call: Call) -> ([Vec<u8>; 2], u16) {
     call.make();
     match call {
-        Call::Add { main, local, .. } | Call::Run { main, local, .. } => [main, local],
+        Call::Sum { main, local, .. } => ([main, local], 0),
+        Call::Run { main, local, state, .. } => ([main, local], u16::from_be_bytes([state[13], state[14]])),
         other => panic!("no storage is lent to {other:?}"),
     }
 }
 
+/// An entry leaves what the run leaves, counts its cycles, and answers by the word at which it stops.
 #[test]
-fn the_decimal_entry_runs_the_shipped_words_from_the_start() {
+fn an_entry_runs_its_words_from_the_start() {
     let random = &mut Random::new(131);
-    let pairs: Vec<[Call; 2]> = (0..1600).map(|_| add_and_run(random)).collect();
-    let answers = agree(&pairs.concat());
-    for ([add, run], answers) in pairs.into_iter().zip(answers.chunks(2)) {
-        assert_eq!(answers[1], answers[0] >> 32 << 32 | 1, "as many cycles, and stopped");
-        assert_eq!(storage_after(add), storage_after(run));
+    for program in PROGRAMS {
+        let pairs: Vec<[Call; 2]> = (0..1600).map(|_| sum_and_run(random, program)).collect();
+        let answers = agree(&pairs.concat());
+        let mut stops = BTreeSet::new();
+        for ([sum, run], answers) in pairs.into_iter().zip(answers.chunks(2)) {
+            assert_eq!(answers[1], answers[0] >> 32 << 32 | STOPPED, "as many cycles, and stopped");
+            let (storage, wx) = left_by(run);
+            assert_eq!(left_by(sum).0, storage);
+            stops.insert((answers[0] & 0xFF, wx));
+        }
+        let (summed, bad) = program.stops();
+        assert_eq!(stops, bad.iter().map(|wx| (BAD_DIGIT, *wx)).chain([(SUMMED, summed)]).collect());
     }
 }
 
@@ -880,11 +1075,7 @@ fn chosen_fields() -> Vec<Vec<u8>> {
 
 /// Digits, of which one may be over 9, and in the last place any sign.
 fn draw_field(random: &mut Random, length: usize) -> Vec<u8> {
-    let mut field = digits(random, length);
-    if let Some(last) = field.last_mut() {
-        *last = *last & 0xF0 | random.below(16) as u8;
-    }
-    field
+    with_sign(digits(random, length), random.below(16) as u8)
 }
 
 /// Chosen and drawn fields of 8 bytes, and drawn ones of every length.

@@ -4,10 +4,10 @@ use crate::adder::Work;
 use crate::cycle::{cycle, next_work, Answer};
 use crate::decimal::{add_decimal, Outcome};
 use crate::run::Ending;
-use crate::shipped::{self, SHIPPED};
+use crate::shipped::{self, APSP, SHIPPED};
 use crate::state::State;
 use crate::word::LAYOUT;
-use crate::Refusal;
+use crate::{apsp, Refusal};
 
 /// The refusals in words, by number; nothing gives 0, 23, 24 or 28 to 32.
 pub const WORDS: [&str; 34] = [
@@ -315,27 +315,81 @@ fn lay_out(field: &mut [u8], digits: &str) {
     }
 }
 
+/// Two numbers' digits in 1,024 bytes of zeros, each in as many bytes as the longer of them needs; and how many these are.
+fn laid_out(first: &str, second: &str) -> (Vec<u8>, usize) {
+    let length = first.len().max(second.len()).div_ceil(2);
+    let mut main = vec![0; 1024];
+    lay_out(&mut main[FIRST..FIRST + length], first);
+    lay_out(&mut main[SECOND..SECOND + length], second);
+    (main, length)
+}
+
+/// The digits of the first of so many bytes.
+fn first_field(main: &[u8], length: usize) -> String {
+    main[FIRST..FIRST + length].iter().map(|byte| format!("{byte:02X}")).collect()
+}
+
 /// What an addition came to, by whole numbers and not by the shipped words.
 fn result(first: &str, second: &str, main: &mut [u8], length: usize, carry: bool) -> String {
     match add_decimal(main, &[0; 256], FIRST, SECOND, length, carry) {
         Outcome::Summed { carry } => {
-            let sum: String = main[FIRST..FIRST + length].iter().map(|byte| format!("{byte:02X}")).collect();
-            format!("{first} + {second} = {sum} CARRY {}\n", u8::from(carry))
+            format!("{first} + {second} = {} CARRY {}\n", first_field(main, length), u8::from(carry))
         }
         Outcome::BadDigit => format!("{first} + {second}: BAD DIGIT\n"),
         Outcome::Refused { number } => panic!("{first} + {second} is refused by {number}"),
     }
 }
 
+/// The cycles of a shipped program over main storage, from its start.
+fn cycles(program: &[u64], main: &[u8], start: State, view: &View) -> String {
+    run(program, main, start, shipped::bound(&start), view).0
+}
+
 /// All that is printed of an addition of two numbers of 1 to 32 digits.
 pub fn add(first: &str, second: &str, carry: bool, view: &View) -> String {
-    let length = first.len().max(second.len()).div_ceil(2);
-    let mut main = vec![0; 1024];
-    lay_out(&mut main[FIRST..FIRST + length], first);
-    lay_out(&mut main[SECOND..SECOND + length], second);
+    let (mut main, length) = laid_out(first, second);
     let start = shipped::start(FIRST as u16, SECOND as u16, length as u8, carry);
-    let (text, _) = run(&SHIPPED, &main, start, 40 * length as u64 + 40, view);
-    text + &result(first, second, &mut main, length, carry)
+    cycles(&SHIPPED, &main, start, view) + &result(first, second, &mut main, length, carry)
+}
+
+/// The digits of a number as it was typed, and then its sign digit: "a first character '+' or '-' is the sign; else a last
+/// character '+' or '-'; else ':' as the last character but one; else plus".
+fn with_sign_digit(typed: &str) -> String {
+    let before = typed.strip_prefix(['+', '-']).map(|digits| (digits, &typed[..1]));
+    let after = typed.strip_suffix(['+', '-']).map(|digits| (digits, &typed[digits.len()..]));
+    let (digits, sign) = before.or(after).or(typed.split_once(':')).unwrap_or((typed, "+"));
+    let sign = match sign {
+        "+" => "C",
+        "-" => "D",
+        digit => digit,
+    };
+    format!("{digits}{sign}")
+}
+
+/// A field's digits with + or - for its sign digit C or D.
+fn shown_signed(field: &str) -> String {
+    let minus = field.strip_suffix('D').map(|digits| format!("{digits}-"));
+    minus.unwrap_or_else(|| format!("{}+", field.strip_suffix('C').expect("a preferred sign")))
+}
+
+/// What AP or SP came to, by whole numbers and not by its words.
+fn signed_result(said: &str, main: &mut [u8], length: usize, subtract: bool) -> String {
+    match apsp::add_signed(main, &[0; 256], FIRST, SECOND, length, subtract) {
+        apsp::Outcome::Done { overflow } => {
+            let told = if overflow { " OVERFLOW" } else { "" };
+            format!("{said} = {}{told}\n", shown_signed(&first_field(main, length)))
+        }
+        apsp::Outcome::Bad => format!("{said}: BAD DIGIT OR SIGN\n"),
+        apsp::Outcome::Refused { number } => panic!("{said} is refused by {number}"),
+    }
+}
+
+/// All that is printed of AP or SP of two numbers of 1 to 31 digits, as they were typed.
+pub fn signed(first: &str, second: &str, subtract: bool, view: &View) -> String {
+    let (mut main, length) = laid_out(&with_sign_digit(first), &with_sign_digit(second));
+    let start = shipped::start_apsp(FIRST as u16, SECOND as u16, length as u8, subtract);
+    let said = format!("{first} {} {second}", if subtract { "SP" } else { "AP" });
+    cycles(&APSP, &main, start, view) + &signed_result(&said, &mut main, length, subtract)
 }
 
 #[cfg(test)]
@@ -437,6 +491,44 @@ CYCLE     12 AT 00F
         assert_eq!(last("999", "1", true).as_deref(), Some("999 + 1 = 1001 CARRY 0"));
         assert_eq!(last("99", "0", true).as_deref(), Some("99 + 0 = 00 CARRY 1"));
         assert_eq!(last("9", "a", false).as_deref(), Some("9 + a: BAD DIGIT"));
+    }
+
+    #[test]
+    fn a_number_is_typed_with_its_sign_in_any_way() {
+        for (typed, digits) in [
+            ("190", "190C"),
+            ("+190", "190C"),
+            ("-190", "190D"),
+            ("190+", "190C"),
+            ("190-", "190D"),
+            ("190:F", "190F"),
+            ("190:b", "190b"),
+            ("190:5", "1905"),
+            ("d", "dC"),
+            ("0", "0C"),
+        ] {
+            assert_eq!(with_sign_digit(typed), digits, "{typed}");
+        }
+    }
+
+    #[test]
+    fn a_signed_sum_ends_with_its_result() {
+        let last =
+            |first, second, subtract| signed(first, second, subtract, &View::LINES).lines().last().map(str::to_owned);
+        assert_eq!(last("190+", "200-", false).as_deref(), Some("190+ AP 200- = 010-"));
+        assert_eq!(last("190", "200", true).as_deref(), Some("190 SP 200 = 010-"));
+        assert_eq!(last("5-", "5-", false).as_deref(), Some("5- AP 5- = 0- OVERFLOW"));
+        assert_eq!(last("190:5", "200", false).as_deref(), Some("190:5 AP 200: BAD DIGIT OR SIGN"));
+    }
+
+    /// The paper's own: 44 cycles of 138 + 117, and 71 of 190 - 200.
+    #[test]
+    fn a_signed_sum_shows_its_cycles() {
+        for (first, second, subtract, cycles) in [("138", "117", false, 44), ("190", "200", true, 71)] {
+            let text = signed(first, second, subtract, &View::LINES);
+            let lines: Vec<&str> = text.lines().collect();
+            assert_eq!((lines.len(), lines[cycles + 2]), (cycles + 4, "STOPPED AT 033"));
+        }
     }
 
     #[test]

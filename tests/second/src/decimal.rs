@@ -39,7 +39,7 @@ pub fn add_decimal(
 }
 
 /// The first of 1, 12, 13, 14 that is given, or 0.
-fn refusal(main: &[u8], local: &[u8], first: usize, second: usize, length: usize) -> Refusal {
+pub(crate) fn refusal(main: &[u8], local: &[u8], first: usize, second: usize, length: usize) -> Refusal {
     // A start may be as large as the machine's numbers go.
     let outside = |start: usize| start.checked_add(length).is_none_or(|end| end > main.len());
     let checks = [

@@ -1,11 +1,12 @@
 //! A second Model 30 engine, written from document 01 alone, for the proved one to be compared with; `signed` is written
-//! from request 2 of document 02 alone.
+//! from request 2 of document 02 alone, and `apsp` from request 3 and the paper of its words.
 //!
 //! One file for each section of the paper. Behaviour sits in tables of functions indexed by a field's
 //! code; a code with no entry is a code that is not modelled, so refusal 10 reads the same tables.
 
 pub mod adder;
 pub mod agree;
+pub mod apsp;
 pub mod bits;
 pub mod board;
 pub mod branch;

@@ -4,10 +4,10 @@ use crate::adder::Work;
 use crate::cycle::{cycle, next_work, Answer};
 use crate::decimal::{add_decimal, Outcome};
 use crate::run::{run, Ending};
-use crate::shipped::{self, run_shipped, SHIPPED};
+use crate::shipped::{self, run_shipped, APSP, SHIPPED};
 use crate::state::State;
 use crate::word::{self, Fields};
-use crate::{deck, signed, Refusal};
+use crate::{apsp, deck, signed, Refusal};
 
 /// PANEL_STATE: the bytes of a record.
 pub const STATE: usize = 22;
@@ -23,10 +23,10 @@ pub const RAN: u64 = 0;
 pub const STOPPED: u64 = 1;
 pub const REFUSED: u64 = 2;
 pub const SPENT: u64 = 3;
-const SUMMED: u64 = 4;
-const BAD_DIGIT: u64 = 5;
+pub const SUMMED: u64 = 4;
+pub const BAD_DIGIT: u64 = 5;
 
-/// kind + 256 * refusal number + 65536 * field of refusal 10, or the carry out.
+/// kind + 256 * refusal number + 65536 * field of refusal 10, or the carry out, or the overflow.
 fn coded(kind: u64, number: Refusal, field: u8) -> u64 {
     kind + 256 * u64::from(number) + 65536 * u64::from(field)
 }
@@ -121,34 +121,80 @@ pub fn next_sum(store: &[u64], record: &[u8], work: &mut [u8]) -> u64 {
     0
 }
 
-pub fn start(first: u16, second: u16, length: u8, carry_in: u8, record: &mut [u8]) -> u64 {
+/// The record of a state, where there is room for it.
+fn started(state: &State, record: &mut [u8]) -> u64 {
     if record.len() < STATE {
         return 19;
     }
-    save(&shipped::start(first, second, length, carry_in != 0), record);
+    save(state, record);
     0
 }
 
-pub fn shipped(words: &mut [u64]) -> u64 {
-    let Some(room) = words.first_chunk_mut() else {
+pub fn start(first: u16, second: u16, length: u8, carry_in: u8, record: &mut [u8]) -> u64 {
+    started(&shipped::start(first, second, length, carry_in != 0), record)
+}
+
+pub fn start_signed(first: u16, second: u16, length: u8, subtract: u8, record: &mut [u8]) -> u64 {
+    started(&shipped::start_apsp(first, second, length, subtract != 0), record)
+}
+
+/// All of a program's words, where there is room for them.
+fn handed(program: &[u64], words: &mut [u64]) -> u64 {
+    let Some(room) = words.get_mut(..program.len()) else {
         return moved(Err(19));
     };
-    *room = SHIPPED;
-    moved(Ok(SHIPPED.len()))
+    room.copy_from_slice(program);
+    moved(Ok(program.len()))
+}
+
+pub fn shipped(words: &mut [u64]) -> u64 {
+    handed(&SHIPPED, words)
+}
+
+pub fn shipped_signed(words: &mut [u64]) -> u64 {
+    handed(&APSP, words)
+}
+
+/// What an entry answers: a sum with its carry out or overflow, none for a bad digit or sign, or a refusal. Cycles ran
+/// where it is not refused.
+fn added(outcome: Result<Option<bool>, Refusal>, count: impl FnOnce() -> u64) -> u64 {
+    match outcome {
+        Ok(Some(flag)) => coded(SUMMED, 0, u8::from(flag)) + ran(count()),
+        Ok(None) => coded(BAD_DIGIT, 0, 0) + ran(count()),
+        Err(number) => coded(REFUSED, number, 0),
+    }
 }
 
 /// The sum is by whole numbers; the count is that of this engine's own run of the shipped words, on a copy.
 pub fn add(main: &mut [u8], local: &mut [u8], first: usize, second: usize, length: usize, carry_in: u8) -> u64 {
     let carry = carry_in != 0;
     let (mut same_main, mut same_local) = (main.to_vec(), local.to_vec());
-    let outcome = add_decimal(main, local, first, second, length, carry);
+    let outcome = match add_decimal(main, local, first, second, length, carry) {
+        Outcome::Summed { carry } => Ok(Some(carry)),
+        Outcome::BadDigit => Ok(None),
+        Outcome::Refused { number } => Err(number),
+    };
     let from = shipped::start(first as u16, second as u16, length as u8, carry);
-    let mut count = || run_shipped(&mut same_main, &mut same_local, from).1;
-    match outcome {
-        Outcome::Summed { carry } => coded(SUMMED, 0, u8::from(carry)) + ran(count()),
-        Outcome::BadDigit => coded(BAD_DIGIT, 0, 0) + ran(count()),
-        Outcome::Refused { number } => coded(REFUSED, number, 0),
-    }
+    added(outcome, || run_shipped(&mut same_main, &mut same_local, from).1)
+}
+
+/// The sum or difference is by whole numbers too; the count is by the paper's table, of storage as it was before.
+fn signed_sum(main: &mut [u8], local: &[u8], first: usize, second: usize, length: usize, subtract: bool) -> u64 {
+    let before = main.to_vec();
+    let outcome = match apsp::add_signed(main, local, first, second, length, subtract) {
+        apsp::Outcome::Done { overflow } => Ok(Some(overflow)),
+        apsp::Outcome::Bad => Ok(None),
+        apsp::Outcome::Refused { number } => Err(number),
+    };
+    added(outcome, || apsp::cycles(&before, first, second, length, subtract))
+}
+
+pub fn add_signed(main: &mut [u8], local: &mut [u8], first: usize, second: usize, length: usize) -> u64 {
+    signed_sum(main, local, first, second, length, false)
+}
+
+pub fn sub_signed(main: &mut [u8], local: &mut [u8], first: usize, second: usize, length: usize) -> u64 {
+    signed_sum(main, local, first, second, length, true)
 }
 
 /// The count of words, or of bytes, and 65536 * refusal number.

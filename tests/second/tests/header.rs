@@ -1,11 +1,16 @@
-//! include/panel.h declares what crates/panel exports: the same functions, in the same order, with the same types. Its
-//! records are the lists of crates/channels.
+//! include/panel.h declares what crates/panel exports: the same functions, in the same order, each with the same parameters
+//! by name and type. Its records are the lists of crates/channels.
 
 use std::fs;
 use std::path::Path;
 
-/// A function's name, the C types of its parameters, and that of its result.
-type Signature = (String, Vec<String>, String);
+/// A parameter's C type and its name. The length after a pointer has any name in the header, and none here.
+type Parameter = (String, String);
+
+/// A function's name, its parameters, and the C type of its result.
+type Signature = (String, Vec<Parameter>, String);
+
+const LENGTH: &str = "size_t";
 
 fn read(path: &str) -> String {
     fs::read_to_string(Path::new(env!("CARGO_MANIFEST_DIR")).join("../..").join(path)).expect(path)
@@ -20,10 +25,22 @@ fn bare(header: &str) -> String {
     text
 }
 
-/// `const uint8_t *deck` is of the type `const uint8_t *`.
-fn c_type(parameter: &str) -> String {
+/// `const uint8_t *deck` is `deck` of the type `const uint8_t *`.
+fn declared_parameter(parameter: &str) -> Parameter {
     let name_at = parameter.rfind(|c: char| !c.is_alphanumeric() && c != '_').expect("a type before the name");
-    parameter[..=name_at].split_whitespace().collect::<Vec<_>>().join(" ")
+    let (front, name) = parameter.split_at(name_at + 1);
+    (front.split_whitespace().collect::<Vec<_>>().join(" "), name.into())
+}
+
+/// The length after a pointer loses its name.
+fn declared_parameters(list: &str) -> Vec<Parameter> {
+    let mut found: Vec<Parameter> = list.split(',').map(|parameter| declared_parameter(parameter.trim())).collect();
+    for place in 1..found.len() {
+        if found[place - 1].0.ends_with('*') && found[place].0 == LENGTH {
+            found[place].1.clear();
+        }
+    }
+    found
 }
 
 fn declared(header: &str) -> Vec<Signature> {
@@ -36,8 +53,8 @@ fn declared(header: &str) -> Vec<Signature> {
         let [.., result, name] = words[..] else {
             continue;
         };
-        let parameters = parameters.trim_end().trim_end_matches(')');
-        found.push((name.into(), parameters.split(',').map(|p| c_type(p.trim())).collect(), result.into()));
+        let parameters = declared_parameters(parameters.trim_end().trim_end_matches(')'));
+        found.push((name.into(), parameters, result.into()));
     }
     found
 }
@@ -54,15 +71,21 @@ fn number(rattle: &str) -> &'static str {
     }
 }
 
-/// A slice passes as a pointer and then a length.
-fn passed(rattle: &str) -> Vec<String> {
+/// A slice passes as a pointer and then a length. The header says which carry it is.
+fn passed(parameter: &str) -> Vec<Parameter> {
+    let (name, rattle) = parameter.split_once(": ").expect("a type");
+    let name = if name == "carry" { "carry_in" } else { name };
+    let slice = |constant: &str, element: &str| {
+        let pointer = format!("{constant}{} *", number(element.trim_end_matches(']')));
+        vec![(pointer, name.into()), (LENGTH.into(), String::new())]
+    };
     if let Some(element) = rattle.strip_prefix("&mut [") {
-        return vec![format!("{} *", number(element.trim_end_matches(']'))), "size_t".into()];
+        return slice("", element);
     }
     if let Some(element) = rattle.strip_prefix("&[") {
-        return vec![format!("const {} *", number(element.trim_end_matches(']'))), "size_t".into()];
+        return slice("const ", element);
     }
-    vec![number(rattle).into()]
+    vec![(number(rattle).into(), name.into())]
 }
 
 fn exported(source: &str) -> Vec<Signature> {
@@ -71,9 +94,8 @@ fn exported(source: &str) -> Vec<Signature> {
         let (name, rest) = part.split_once('(').expect("parameters");
         let (parameters, rest) = rest.split_once(") -> ").expect("a result");
         let result = rest.split_whitespace().next().expect("the result's type");
-        let types = parameters.split(',').map(str::trim).filter(|p| !p.is_empty());
-        let types = types.flat_map(|p| passed(p.split_once(": ").expect("a type").1));
-        found.push((name.into(), types.collect(), number(result).into()));
+        let parameters = parameters.split(',').map(str::trim).filter(|p| !p.is_empty());
+        found.push((name.into(), parameters.flat_map(passed).collect(), number(result).into()));
     }
     found
 }
@@ -81,7 +103,7 @@ fn exported(source: &str) -> Vec<Signature> {
 #[test]
 fn the_header_declares_what_the_panel_exports() {
     let declared = declared(&read("include/panel.h"));
-    assert_eq!(declared.len(), 12);
+    assert_eq!(declared.len(), 16);
     assert_eq!(declared, exported(&read("crates/panel/src/lib.rt")));
 }
 

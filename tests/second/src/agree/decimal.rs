@@ -2,64 +2,11 @@
 //! refusal. Result, carry and storage are by whole numbers; the count of cycles is that of this engine's own run of the
 //! shipped words, which must end as the whole numbers say.
 
+use super::fields::{digits, drawn, Trial};
 use super::{digest_line, drawn_bytes, mix_bytes};
-use crate::bits::from_digits;
 use crate::decimal::{add_decimal, Outcome};
 use crate::random::{mix, Random};
 use crate::shipped::{run_shipped, start};
-
-struct Trial {
-    main: usize,
-    local: usize,
-    first: usize,
-    second: usize,
-    length: usize,
-    carry: bool,
-}
-
-const MAIN_SIZES: [usize; 8] = [48, 48, 48, 48, 48, 48, 300, 65536];
-
-/// Near the start of storage, or near its end so that a field ends there or runs over.
-fn field_start(main: usize, x: u64) -> usize {
-    let place = (x / 4 % 34) as usize;
-    if x.is_multiple_of(4) {
-        main.saturating_sub(place)
-    } else {
-        place
-    }
-}
-
-fn drawn_length(x: u64) -> usize {
-    if x.is_multiple_of(16) {
-        (x / 16 % 20) as usize
-    } else {
-        (x / 16 % 16 + 1) as usize
-    }
-}
-
-fn drawn(a: u64, b: u64) -> Trial {
-    let main = MAIN_SIZES[(a >> 8) as usize % 8];
-    let mut trial = Trial {
-        main,
-        local: 256,
-        first: field_start(main, b),
-        second: field_start(main, b >> 16),
-        length: drawn_length(a >> 16),
-        carry: a >> 12 & 1 == 1,
-    };
-    match a % 64 {
-        0 => trial.main = 0,
-        1 => trial.main = 65537,
-        2 => trial.local = 255,
-        3 => trial.local = 257,
-        4 => trial.length = usize::MAX,
-        5 => trial.first = usize::MAX,
-        6 => trial.second = usize::MAX - 7,
-        7..=14 => trial.second = trial.first,
-        _ => (),
-    }
-    trial
-}
 
 /// Good digits in every byte, which one time in four are all nines and one time in four all zeros.
 fn fill_digits(random: &mut Random, style: u64, bytes: &mut [u8]) {
@@ -68,7 +15,7 @@ fn fill_digits(random: &mut Random, style: u64, bytes: &mut [u8]) {
         *byte = match style % 4 {
             1 => 0x99,
             2 => 0,
-            _ => from_digits((x / 256 / 16 % 10) as u8, (x / 256 % 10) as u8),
+            _ => digits(x / 256),
         };
     }
 }
@@ -93,12 +40,12 @@ struct Counts {
 fn answer(digest: u64, trial: &Trial, main: &mut [u8], local: &mut [u8], counts: &mut Counts) -> u64 {
     let (main, local) = (&mut main[..trial.main], &mut local[..trial.local]);
     let (mut ran_main, mut ran_local) = (main.to_vec(), local.to_vec());
-    let outcome = add_decimal(main, local, trial.first, trial.second, trial.length, trial.carry);
+    let outcome = add_decimal(main, local, trial.first, trial.second, trial.length, trial.on);
     if let Outcome::Refused { number } = outcome {
         counts.refused[usize::from(number)] += 1;
         return mix(digest, u64::from(number) + 16);
     }
-    let start = start(trial.first as u16, trial.second as u16, trial.length as u8, trial.carry);
+    let start = start(trial.first as u16, trial.second as u16, trial.length as u8, trial.on);
     let (ran, count) = run_shipped(&mut ran_main, &mut ran_local, start);
     assert!(
         ran == outcome && ran_main == main && ran_local == local,

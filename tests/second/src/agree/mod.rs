@@ -3,10 +3,12 @@
 //! A program's stored `stdout` is made here, by `cargo run --release --bin agree -- agree_adder`.
 
 mod adder;
+mod apsp;
 mod cycle;
 mod decimal;
 mod deck;
 mod draw;
+mod fields;
 mod run;
 mod signed;
 mod word;
@@ -17,8 +19,9 @@ use crate::state::State;
 /// A program's name, and what computes its text.
 pub type Program = (&'static str, fn() -> String);
 
-pub const PROGRAMS: [Program; 7] = [
+pub const PROGRAMS: [Program; 8] = [
     ("agree_adder", adder::text),
+    ("agree_apsp", apsp::text),
     ("agree_cycle", cycle::text),
     ("agree_decimal", decimal::text),
     ("agree_deck", deck::text),
