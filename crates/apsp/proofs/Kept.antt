@@ -17,13 +17,13 @@ use Rattle.machine.specs.Cycle.{Outcome, outcome}
 use Rattle.machine.specs.declared.State.{State}
 use Rattle.decimal.specs.Value.{decimalField}
 use Rattle.decimal.specs.Entry.{bound}
-use Rattle.decimal.specs.Promise.{untilBad, Bad, Accepted}
+use Rattle.decimal.specs.Promise.{untilBad, Bad}
 use Rattle.decimal.specs.declared.Added.{Added}
 use Rattle.decimal.specs.declared.Added.the-variants.{Summed}
 use Rattle.decimal.proofs.Places.{ended, Refuses}
 use Rattle.decimal.proofs.Checks.{Fit, checked}
 use Rattle.decimal.proofs.Whole.{until-le}
-use Rattle.decimal.proofs.Kept.{Finishes, comes-to, stops-short, keeps}
+use Rattle.decimal.proofs.Kept.{Finishes, no-bytes, comes-to, stops-short, keeps}
 use Rattle.apsp.specs.Program.{signedWords}
 use Rattle.apsp.specs.Numbers.{places, field, number, lastByte, signedByte, goodField, exact, overflows, fieldOf}
 use Rattle.apsp.specs.Entry.{signedStart, signedRun, DONE, signedOf}
@@ -167,10 +167,7 @@ pub signed-kept : (main local : List ℕ) (a b n : ℕ) (subtract : Bool) → ((
 unfolding signedOf
 signed-kept main local a b zero subtract bytes =
     keeps DONE (signedRun main local a b 0 subtract) main local a b 0 (goodField main a 0 && goodField main b 0) (SignedSums main local a b 0 subtract) (Bad (untilBadSigned main a b 0) main local)
-    (λ e g. absurd (no-bytes e)) (λ e g. absurd (no-bytes e))
-  where
-    no-bytes : Accepted main local a b 0 → ⊥
-    no-bytes e = omega (arith, checked (length main) (length local) a b 0 e .some)
+    (λ e g. absurd (no-bytes main local a b e)) (λ e g. absurd (no-bytes main local a b e))
 signed-kept main local a b (suc m) subtract bytes =
     keeps DONE (signedRun main local a b (suc m) subtract) main local a b (suc m) (goodField main a (suc m) && goodField main b (suc m)) (SignedSums main local a b (suc m) subtract)
     (Bad (untilBadSigned main a b (suc m)) main local)

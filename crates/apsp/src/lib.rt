@@ -95,12 +95,6 @@ pub fn add(
     ensures run { λ r. ⌜ outcome r (now (main .exit)) (now (local .exit)) ≡ signedOf (now (main .entry)) (now (local .entry)) first second length subtract ⌝ }
     ensures promise { λ r. ⌜ SignedPromise (now (main .entry)) (now (local .entry)) first second length subtract r (now (main .exit)) (now (local .exit)) ⌝ }
 {
-    let number = decimal::refusal(main.len(), local.len(), first, second, length);
-    if number != 0 {
-        return Added::Refused(number);
-    }
-    let store = words();
-    let bytes = length as u8;
-    let state = start(first as u16, second as u16, bytes, subtract);
-    decimal::run_words(&store, main, local, state, bytes, DONE)
+    let status = digits::with_bit(0, 0, subtract);
+    decimal::entry(&words(), main, local, first, second, length, status, DONE)
 }

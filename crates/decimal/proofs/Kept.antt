@@ -122,6 +122,10 @@ module _ (done : ℕ) (run : Outcome Finished) (main local : List ℕ) (a b n : 
 pub from-run : (done : ℕ) (f : Finished) (m l : List ℕ) (r : Outcome Finished) {x : Added} → x ≡ answeredAt done f → outcome f m l ≡ r → outcome x m l ≡ fromRun done r
 from-run done f m l r e p = ap (λ (y : Added). outcome y m l) e ∙ ap (fromRun done) p
 
+-- fields of no bytes are not accepted
+pub no-bytes : (main local : List ℕ) (a b : ℕ) → Accepted main local a b 0 → ⊥
+no-bytes main local a b e = omega (arith, checked (length main) (length local) a b 0 e .some)
+
 -- a program that comes to its stop, or to another
 module _ (store main local : List ℕ) (s : State) (n done count : ℕ) (right : Right store (machine s main local)) (size : n ≤ 16) (less : count < bound n) where
   abbrev its-run : Outcome Finished
@@ -184,10 +188,7 @@ pub kept : (main local : List ℕ) (a b n : ℕ) (c : Bool) → let o = addOf ma
 unfolding addOf
 kept main local a b zero c =
     keeps SUMMED (runFor main local a b 0 c) main local a b 0 (bothFields main a b 0) (Sums main local a b 0 c) (Bad (2 + untilBad main a b 0) main local)
-    (λ e d. absurd (no-bytes e)) (λ e d. absurd (no-bytes e))
-  where
-    no-bytes : Accepted main local a b 0 → ⊥
-    no-bytes e = omega (arith, checked (length main) (length local) a b 0 e .some)
+    (λ e d. absurd (no-bytes main local a b e)) (λ e d. absurd (no-bytes main local a b e))
 kept main local a b (suc k) c =
     keeps SUMMED (runFor main local a b (suc k) c) main local a b (suc k) (bothFields main a b (suc k)) (Sums main local a b (suc k) c) (Bad (2 + untilBad main a b (suc k)) main local)
     (λ e. sums-end main local a b k c (checked (length main) (length local) a b (suc k) e)) (λ e. bad-end main local a b k c (checked (length main) (length local) a b (suc k) e))

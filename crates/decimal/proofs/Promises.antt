@@ -12,8 +12,7 @@ use Rattle.decimal.specs.declared.Added.{Added}
 use Rattle.decimal.proofs.words.Reads as words
 use Rattle.decimal.proofs.start_with.Reads as start-with
 use Rattle.decimal.proofs.start.Reads as start
-use Rattle.decimal.proofs.refusal.Reads as refusal
-use Rattle.decimal.proofs.run_words.Reads as run-words
+use Rattle.decimal.proofs.entry.Reads as entry
 use Rattle.decimal.proofs.answered_at.Reads as answered-at
 use Rattle.decimal.proofs.add.Reads as add
 
@@ -21,9 +20,6 @@ use Rattle.decimal.proofs.add.Reads as add
 
 pub words-sole : (κs : _) (args : _) (r q : List ℕ) (x y : _) → words.Post κs args r x → words.Post κs args q y → r ≡ q
 words-sole κs args r q x y a b = sole a b
-
-pub refusal-sole : (κs : _) (args : _) (r q : ℕ) (x y : _) → refusal.Post κs args r x → refusal.Post κs args q y → r ≡ q
-refusal-sole κs args r q x y a b = sole a b
 
 pub start-with-sole : (κs : _) (args : _) (r q : State) (x y : _) → start-with.Post κs args r x → start-with.Post κs args q y → r ≡ q
 start-with-sole κs args r q x y a b = sole a b
@@ -34,9 +30,9 @@ start-sole κs args r q x y a b = sole a b
 pub answered-at-sole : (κs : _) (args : _) (r q : Added) (x y : _) → answered-at.Post κs args r x → answered-at.Post κs args q y → r ≡ q
 answered-at-sole κs args r q x y a b = sole a b
 
-pub run-words-sole : (κs : _) (args : _) (r q : Added) (x y : _) → run-words.Post κs args r x → run-words.Post κs args q y
+pub entry-sole : (κs : _) (args : _) (r q : Added) (x y : _) → entry.Post κs args r x → entry.Post κs args q y
     → outcome r (now (x .1 .0)) (now (x .1 .1 .0)) ≡ outcome q (now (y .1 .0)) (now (y .1 .1 .0))
-run-words-sole κs args r q x y a b = sole a b
+entry-sole κs args r q x y a b = sole a b
 
 pub add-sole : (κs : _) (args : _) (r q : Added) (x y : _) → add.Post κs args r x → add.Post κs args q y → outcome r (now (x .0)) (now (x .1 .0)) ≡ outcome q (now (y .0)) (now (y .1 .0))
 add-sole κs args r q x y a b = sole (a .0) (b .0)

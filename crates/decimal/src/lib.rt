@@ -6,7 +6,7 @@ ghost use Rattle.digits.specs.Refusal.{first};
 ghost use Rattle.machine.specs.Cycle.{outcome};
 ghost use Rattle.decimal.specs.Program.{shipped};
 ghost use Rattle.run.specs.Run.{runOf};
-ghost use Rattle.decimal.specs.Entry.{pastEnd, overlap, addChecks, startWith, start, bound, answeredAt, fromRun, addOf};
+ghost use Rattle.decimal.specs.Entry.{pastEnd, overlap, addChecks, startWith, start, bound, answeredAt, entryOf, addOf};
 ghost use Rattle.decimal.specs.Promise.{Promise};
 use machine::State;
 use run::Finished;
@@ -78,7 +78,7 @@ fn overlap(a: usize, b: usize, length: usize) -> bool
 }
 
 // 1, 12, 13, 14, or 0.
-pub fn refusal(main: usize, local: usize, a: usize, b: usize, length: usize) -> u8
+fn refusal(main: usize, local: usize, a: usize, b: usize, length: usize) -> u8
     ensures { λ r. ⌜ r ≡ first (addChecks main local a b length) ⌝ }
 {
     let fourteen = digits::first_of(overlap(a, b, length), 14, 0);
@@ -135,17 +135,24 @@ pub fn answered_at(f: Finished, done: u16) -> Added
     Added::BadDigit(count)
 }
 
-// Runs a program's words over fields of so many bytes.
-pub fn run_words(
+// An entry: the checks, then the run of a program's words over the two fields, with this in S.
+pub fn entry(
     store: &[u64],
     main: &mut [u8],
     local: &mut [u8],
-    state: State,
-    length: u8,
+    first: usize,
+    second: usize,
+    length: usize,
+    status: u8,
     done: u16,
 ) -> Added
-    ensures { λ r. ⌜ outcome r (now (main .exit)) (now (local .exit)) ≡ fromRun done (runOf (bound length) (now (store .entry)) (now (main .entry)) (now (local .entry)) state) ⌝ }
+    ensures { λ r. ⌜ outcome r (now (main .exit)) (now (local .exit)) ≡ entryOf done (runOf (bound length) (now (store .entry)) (now (main .entry)) (now (local .entry)) (startWith first second length status)) (now (main .entry)) (now (local .entry)) first second length ⌝ }
 {
+    let number = refusal(main.len(), local.len(), first, second, length);
+    if number != 0 {
+        return Added::Refused(number);
+    }
+    let state = start_with(first as u16, second as u16, length as u8, status);
     let budget = 40 * (length as u32) + 40;
     let finished = run::run(store, main, local, state, budget);
     answered_at(finished, done)
@@ -163,12 +170,6 @@ pub fn add(
     ensures run { λ r. ⌜ outcome r (now (main .exit)) (now (local .exit)) ≡ addOf (now (main .entry)) (now (local .entry)) first second length carry ⌝ }
     ensures promise { λ r. ⌜ Promise (now (main .entry)) (now (local .entry)) first second length carry r (now (main .exit)) (now (local .exit)) ⌝ }
 {
-    let number = refusal(main.len(), local.len(), first, second, length);
-    if number != 0 {
-        return Added::Refused(number);
-    }
-    let store = words();
-    let bytes = length as u8;
-    let state = start(first as u16, second as u16, bytes, carry);
-    run_words(&store, main, local, state, bytes, SUMMED)
+    let status = digits::with_bit(0, 3, carry);
+    entry(&words(), main, local, first, second, length, status, SUMMED)
 }
