@@ -1,13 +1,11 @@
 -- The words of AP and SP after a pass that sums: 0B, 14 and 28 to 2B; the sign, 2C to 2E, 30 or 32, 31, 33; to complement again, 2F, 34 or 36, 22, 23, 35. Assumes nothing.
-use Prim.Native.Nat.{ℕ, suc, _+_, _*_, _/_, _%_, _<_, _≤_}
-use mathlib.Core.Path.{_≡_, refl, sym, ap, _∙_}
+use Prim.Native.Nat.{ℕ, suc, _+_, _/_, _%_, _<_, _≤_}
+use mathlib.Core.Path.{_≡_, refl, _∙_}
 use mathlib.Core.List.{List, [], _∷_}
 use mathlib.Core.Bool.{Bool, true, false, cond, not}
-use native.Mathlib.Omega.{arith}
 use lib.Dec.{leb}
 use lib.ListN.{length, getD, set}
-use Rattle.digits.specs.Bits.{one, bit, withBit}
-use Rattle.digits.specs.Packed.{preferred}
+use Rattle.digits.specs.Bits.{one, withBit}
 use Rattle.digits.proofs.Bits.{bit-with}
 use Rattle.adder.specs.Adder.{arithmetic, sumOf}
 use Rattle.adder.specs.declared.Sum.{Sum}
@@ -19,8 +17,8 @@ use Rattle.machine.specs.Status.{statusOf}
 use Rattle.machine.specs.Modelled.{unmodelledOf}
 use Rattle.machine.specs.declared.State.{State}
 use Rattle.run.proofs.Goes.{machine, Halts, Right}
-use Rattle.decimal.proofs.Steps.{addresses, idle, Turn, run, stop}
-use Rattle.decimal.proofs.Places.{branch, fork, Marks, marked, marks, carries, view, Place, at, ended, Reaches, Block, look, saved, marks-6, marks-7}
+use Rattle.decimal.proofs.Steps.{addresses, idle, run, stop}
+use Rattle.decimal.proofs.Places.{branch, fork, Marks, marked, marks, carries, view, at, ended, Block, look, saved, marks-6, marks-7}
 use Rattle.decimal.proofs.Pairs.{lowSum, highSum, up, along, held, address, within, copied, one-more}
 use Rattle.apsp.specs.Program.{signedProgram, signedWords}
 use Rattle.apsp.specs.Entry.{DONE}

@@ -1,24 +1,20 @@
 -- What a pass of AP and SP comes to: the sizes of the fields, ten times; and whether that is 0. Assumes nothing.
-use Prim.Native.Nat.{ℕ, zero, suc, _+_, _-_, _*_, _/_, _%_, _^_, _<_, _≤_}
+use Prim.Native.Nat.{ℕ, zero, suc, _+_, _-_, _*_, _/_, _%_, _<_, _≤_}
 use mathlib.Core.Path.{_≡_, refl, sym, ap, subst, _∙_}
 use mathlib.Core.List.{List}
 use mathlib.Core.Bool.{Bool, true, false, cond, not, _||_}
 use native.Mathlib.Omega.{arith}
-use native.Mathlib.Nat.{pow-suc}
 use borrow.Author.Tests.{le-leb, eq-eqb, ne-eqb, eqb-true, eqb-false}
 use lib.Dec.{eqb}
-use lib.ListN.{length, getD, set, length-set}
-use lib.Seq.{getD-set-same, getD-set-other}
-use Rattle.digits.specs.Bits.{one}
-use Rattle.digits.specs.Digits.{high, low, bothDecimal, val}
-use Rattle.adder.proofs.Laws.{both-at-most}
+use lib.ListN.{length, getD, length-set}
+use lib.Seq.{getD-set-same}
+use Rattle.digits.specs.Digits.{high, bothDecimal, val}
 use Rattle.decimal.specs.Value.{value}
 use Rattle.decimal.proofs.Places.{Marks, marked}
 use Rattle.decimal.proofs.Pass2.{Passing, passing, Fits, fits-on, onward, summed, pass, pass-others}
-use Rattle.decimal.proofs.Fields.{Sound, value-same}
+use Rattle.decimal.proofs.Fields.{Sound}
 use Rattle.decimal.proofs.Stands.{Stands, sound-a, sound-b, stands-on, stands}
-use Rattle.apsp.specs.Program.{signedWords}
-use Rattle.apsp.proofs.Sums.{some, digitsOf, signedSum, nextMarks, signing}
+use Rattle.apsp.proofs.Sums.{some, signing}
 
 -- the number of a field of m + 1 bytes, its sign left out
 abbrev pub sizeAt : List ℕ → ℕ → ℕ → ℕ

@@ -1,10 +1,9 @@
 -- The words of AP and SP before a pass that sums: 00 and 01, the last byte of each field (03 and 11, 20 and 17), 21. Assumes nothing.
-use Prim.Native.Nat.{ℕ, suc, _+_, _*_, _/_, _%_, _<_, _≤_}
-use mathlib.Core.Path.{_≡_, refl, sym, ap, _∙_}
+use Prim.Native.Nat.{ℕ, suc, _+_, _/_, _%_, _<_, _≤_}
+use mathlib.Core.Path.{_≡_, refl, ap, _∙_}
 use mathlib.Core.List.{List, [], _∷_}
 use mathlib.Core.Bool.{Bool, true, false}
 use native.Mathlib.Omega.{arith}
-use borrow.Author.Tests.{eqb-true}
 use lib.Bits.{bitAnd}
 use lib.Dec.{eqb}
 use lib.ListN.{length, getD}
@@ -20,10 +19,10 @@ use Rattle.machine.specs.Storage.{accessOf}
 use Rattle.machine.specs.Status.{statusOf}
 use Rattle.machine.specs.Modelled.{unmodelledOf}
 use Rattle.run.proofs.Goes.{machine, Right}
-use Rattle.decimal.proofs.Steps.{addresses, Turn, run, back}
-use Rattle.decimal.proofs.Places.{branch, Marks, marked, marks, carries, view, Place, at, atWith, inR, Reaches, Block, look, mark, marks-with, saved, marks-4, marks-6, marks-7}
-use Rattle.decimal.proofs.Pairs.{up, held, address, within, starts, one-less, none-left}
-use Rattle.apsp.specs.Program.{signedProgram, signedWords}
+use Rattle.decimal.proofs.Steps.{run, back}
+use Rattle.decimal.proofs.Places.{branch, Marks, marked, marks, carries, view, at, atWith, inR, Reaches, Block, look, mark, marks-with, saved, marks-4, marks-6, marks-7}
+use Rattle.decimal.proofs.Pairs.{up, address, within, starts, one-less, none-left}
+use Rattle.apsp.specs.Program.{signedWords}
 use Rattle.apsp.specs.Entry.{signedStart}
 use Rattle.apsp.proofs.Own.{steps}
 

@@ -1,20 +1,17 @@
 -- The entry of AP and SP keeps its promise. Assumes nothing.
 use Prim.Native.Nat.{ℕ, zero, suc, _+_, _-_, _*_, _^_, _<_, _≤_}
 use mathlib.Core.Path.{_≡_, refl, sym, ap, subst, _∙_}
-use mathlib.Core.List.{List, _++_}
+use mathlib.Core.List.{List}
 use mathlib.Core.Bool.{Bool, true, false, cond, not, _&&_}
 use native.Mathlib.Omega.{arith}
-use borrow.Author.Tests.{lt-ltb, le-ltb}
 use lib.Dec.{ltb, leb}
 use lib.IntN.{ℤ, natAbs, _+ℤ_, _-ℤ_}
 use lib.ListN.{length, getD}
-use Rattle.digits.specs.Bits.{bit}
 use Rattle.digits.specs.Digits.{low}
-use Rattle.digits.specs.Packed.{signOf, isMinus, preferred, signed, belowZero, sizeIn, signIn, signedIn, signedBytes}
+use Rattle.digits.specs.Packed.{signOf, isMinus, preferred, signed, belowZero, sizeIn, signIn, signedBytes}
 use Rattle.digits.proofs.Packed.{size-signed, below-signed}
 use Rattle.digits.proofs.Truth.{true-not-false, both}
 use Rattle.machine.specs.Cycle.{Outcome, outcome}
-use Rattle.machine.specs.declared.State.{State}
 use Rattle.decimal.specs.Value.{decimalField}
 use Rattle.decimal.specs.Entry.{bound}
 use Rattle.decimal.specs.Promise.{untilBad, Bad}
@@ -25,9 +22,9 @@ use Rattle.decimal.proofs.Checks.{Fit, checked}
 use Rattle.decimal.proofs.Whole.{until-le}
 use Rattle.decimal.proofs.Kept.{Finishes, no-bytes, comes-to, stops-short, keeps}
 use Rattle.apsp.specs.Program.{signedWords}
-use Rattle.apsp.specs.Numbers.{places, field, number, lastByte, signedByte, goodField, exact, overflows, fieldOf}
+use Rattle.apsp.specs.Numbers.{places, field, number, lastByte, signedByte, goodField, exact}
 use Rattle.apsp.specs.Entry.{signedStart, signedRun, DONE, signedOf}
-use Rattle.apsp.specs.Promise.{turnedBy, isDifference, isAgain, signedCycles, SignedSums, untilBadSigned, SignedPromise}
+use Rattle.apsp.specs.Promise.{turnedBy, signedCycles, SignedSums, untilBadSigned, SignedPromise}
 use Rattle.apsp.proofs.Sums.{some}
 use Rattle.apsp.proofs.After.{stop-33}
 use Rattle.apsp.proofs.Amounts.{sizeAt}

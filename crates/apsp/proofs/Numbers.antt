@@ -1,17 +1,16 @@
 -- Fields with a sign: their sizes by bytes and by digits, what is written, and the exact sum by its sign and size. Assumes nothing.
-use Prim.Native.Nat.{ℕ, zero, suc, _+_, _-_, _*_, _/_, _%_, _^_, _<_, _≤_}
-use mathlib.Core.Path.{_≡_, refl, sym, ap, subst, _∙_}
+use Prim.Native.Nat.{ℕ, zero, suc, _+_, _-_, _*_, _%_, _^_, _<_, _≤_}
+use mathlib.Core.Path.{_≡_, refl, sym, ap, _∙_}
 use mathlib.Core.List.{List, [], _∷_, _++_, append-assoc}
 use mathlib.Core.Bool.{Bool, true, false, cond, not}
 use native.Mathlib.Omega.{arith}
-use native.Mathlib.Nat.{pow-suc}
 use borrow.Author.Tests.{ltb-true, le-ltb}
 use lib.Dec.{ltb}
 use lib.IntN.{ℤ, pos, negsuc, negℤ, _+ℤ_, _-ℤ_, negℤ-negℤ, negℤ-+ℤ}
 use lib.ListN.{length, getD, take, drop, length-append, length-drop}
 use lib.Seq.{take-suc, take-at, getD-at, getD-drop, length-take-le}
-use Rattle.digits.specs.Digits.{high, low, bothDecimal}
-use Rattle.digits.specs.Tens.{lastDigits, tens, tensFrom}
+use Rattle.digits.specs.Digits.{high, low}
+use Rattle.digits.specs.Tens.{lastDigits, tens}
 use Rattle.digits.specs.Packed.{digitsIn, inBytes, signed, sizeIn, signIn, signedBytes}
 use Rattle.digits.proofs.Table.{Below, each-append}
 use Rattle.digits.proofs.Tens.{tens-snoc, last-mod}
@@ -20,7 +19,7 @@ use Rattle.digits.proofs.Truth.{zero-one}
 use Rattle.adder.proofs.Laws.{both-at-most}
 use Rattle.decimal.specs.Value.{value}
 use Rattle.decimal.proofs.Fields.{Sound}
-use Rattle.apsp.specs.Numbers.{places, field}
+use Rattle.apsp.specs.Numbers.{field}
 use Rattle.apsp.specs.Promise.{turnedBy}
 use Rattle.apsp.proofs.Amounts.{sizeAt}
 

@@ -1,8 +1,8 @@
 -- The four endings of AP and SP: a sum, one that overflows, a difference, and one that is complemented again. Assumes nothing.
-use Prim.Native.Nat.{ℕ, zero, suc, _+_, _-_, _*_, _/_, _%_, _^_, _<_, _≤_}
+use Prim.Native.Nat.{ℕ, suc, _+_, _-_, _*_, _^_, _<_, _≤_}
 use mathlib.Core.Path.{_≡_, refl, sym, ap, subst, _∙_}
 use mathlib.Core.List.{List}
-use mathlib.Core.Bool.{Bool, true, false, cond, not, _&&_, _||_}
+use mathlib.Core.Bool.{Bool, true, false, cond, not, _&&_}
 use mathlib.Core.Logic.{_⊎_}
 use native.Mathlib.Omega.{arith}
 use native.Mathlib.Nat.{one-le-pow}
@@ -10,12 +10,12 @@ use borrow.Author.Tests.{eq-eqb, ne-eqb, eqb-true, eqb-false, le-leb, lt-leb, le
 use lib.Dec.{eqb, leb, ltb, lit<}
 use lib.ListN.{length, getD, set, length-set}
 use Rattle.digits.specs.Bits.{one}
-use Rattle.digits.specs.Digits.{high, low, bothDecimal}
+use Rattle.digits.specs.Digits.{high, low}
 use Rattle.digits.specs.Packed.{signOf, isNone, preferred, signedBytes}
 use Rattle.digits.proofs.Truth.{both}
 use Rattle.run.proofs.Goes.{Machine}
 use Rattle.decimal.specs.Value.{value, decimalField}
-use Rattle.decimal.proofs.Places.{marked, mark, view, Place, at, ended, Reaches, Block, on, then, told, said}
+use Rattle.decimal.proofs.Places.{marked, view, Place, at, ended, Reaches, Block, on, then, told, said}
 use Rattle.decimal.proofs.Checks.{Fit}
 use Rattle.decimal.proofs.Fields.{Sound, field-sound, value-lt, remainder}
 use Rattle.decimal.proofs.Pass2.{Fits, Passing}
@@ -28,7 +28,7 @@ use Rattle.apsp.proofs.Before.{readied}
 use Rattle.apsp.proofs.Sums.{some, signing}
 use Rattle.apsp.proofs.After.{ahead, signed-last, seals, again}
 use Rattle.apsp.proofs.Amounts.{sizeAt, begun, after, pass-stands}
-use Rattle.apsp.proofs.Sealed.{limit, limit-is, last-decimal, last-zero, size-stands, main″, sealed, sealed-others}
+use Rattle.apsp.proofs.Sealed.{limit, limit-is, last-decimal, last-zero, size-stands, sealed, sealed-others}
 use Rattle.apsp.proofs.Whole.{startAt, right, minusAt, differenceAt, prepared, came, pass-leads, seals-by}
 
 -- the result's size and sign, and the cycles that it takes: by whether it is a difference

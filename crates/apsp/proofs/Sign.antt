@@ -1,12 +1,11 @@
 -- The sign routine, 15, 16 and 1B to 1F: a byte in R that has a digit and a sign, and what becomes of S. Assumes nothing.
-use Prim.Native.Nat.{ℕ, suc, _+_, _*_, _/_, _%_, _<_}
-use mathlib.Core.Path.{_≡_, refl, sym, ap, subst, _∙_}
+use Prim.Native.Nat.{ℕ, suc, _+_, _/_, _%_, _<_}
+use mathlib.Core.Path.{_≡_, refl, ap, subst, _∙_}
 use mathlib.Core.List.{List, [], _∷_}
 use mathlib.Core.Bool.{Bool, true, false, cond, not, _&&_}
 use native.Mathlib.Omega.{arith}
 use borrow.Author.Tests.{eq-eqb, ne-eqb, eqb-true, eqb-false}
 use lib.Dec.{eqb}
-use lib.ListN.{getD}
 use Rattle.digits.specs.Bits.{bit, withBit}
 use Rattle.digits.specs.Digits.{low, bothDecimal}
 use Rattle.digits.specs.Packed.{signOf, isMinus}
@@ -21,10 +20,10 @@ use Rattle.machine.specs.Status.{statusOf}
 use Rattle.machine.specs.Modelled.{unmodelledOf}
 use Rattle.machine.specs.declared.State.{State}
 use Rattle.run.proofs.Goes.{machine, Right}
-use Rattle.decimal.proofs.Steps.{addresses, idle, Turn, run}
+use Rattle.decimal.proofs.Steps.{idle, run}
 use Rattle.decimal.proofs.Places.{branch, fork, Marks, marked, marks, carries, view, showing, Place, at, atWith, inR, resting, Reaches, Block, look-with, Refuses, Refusing, mark, marks-with}
 use Rattle.decimal.proofs.Pairs.{one-more}
-use Rattle.apsp.specs.Program.{signedProgram, signedWords}
+use Rattle.apsp.specs.Program.{signedWords}
 use Rattle.apsp.specs.Numbers.{signedByte}
 use Rattle.apsp.specs.Entry.{DONE}
 use Rattle.apsp.proofs.Own.{steps, refuses}

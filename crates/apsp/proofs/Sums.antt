@@ -1,10 +1,9 @@
 -- The words of AP and SP that sum, 10 and one of 24 to 27, with 12 and 13: true or complement as S0 tells, high digits alone where S4 is on, and nothing in the
 -- first field's place where S7 is off. Assumes nothing.
-use Prim.Native.Nat.{ℕ, suc, _+_, _*_, _<_, _≤_}
-use mathlib.Core.Path.{_≡_, refl, sym, ap, _∙_}
+use Prim.Native.Nat.{ℕ, suc, _*_, _<_, _≤_}
+use mathlib.Core.Path.{_≡_, refl, ap, _∙_}
 use mathlib.Core.List.{List, [], _∷_}
 use mathlib.Core.Bool.{Bool, true, false, cond, not, _||_}
-use native.Mathlib.Omega.{arith}
 use lib.Dec.{eqb}
 use lib.ListN.{length, getD, set}
 use Rattle.digits.specs.Bits.{one, bit, withBit}
@@ -19,11 +18,11 @@ use Rattle.machine.specs.Status.{statusOf}
 use Rattle.machine.specs.Modelled.{unmodelledOf}
 use Rattle.machine.specs.declared.State.{State}
 use Rattle.run.proofs.Goes.{machine, Right}
-use Rattle.decimal.proofs.Steps.{addresses, Turn, run}
-use Rattle.decimal.proofs.Places.{branch, fork, Marks, marked, marks, carries, view, showing, Place, at, atWith, inD, Reaches, Block, look-with, saved, marks-2, marks-4, marks-5}
+use Rattle.decimal.proofs.Steps.{run}
+use Rattle.decimal.proofs.Places.{branch, fork, Marks, marked, marks, carries, view, at, atWith, inD, Block, look-with, saved, marks-2, marks-4, marks-5}
 use Rattle.decimal.proofs.Pairs.{held, address, within, one-less, none-left, kept-carry}
 use Rattle.decimal.proofs.Pass2.{Summing}
-use Rattle.apsp.specs.Program.{signedProgram, signedWords}
+use Rattle.apsp.specs.Program.{signedWords}
 use Rattle.apsp.proofs.Own.{leads, steps}
 
 -- a number is not 0

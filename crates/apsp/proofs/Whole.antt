@@ -1,21 +1,20 @@
 -- The words of AP and SP from start to stop. Assumes nothing.
-use Prim.Native.Nat.{ℕ, zero, suc, _+_, _-_, _*_, _/_, _%_, _^_, _<_, _≤_}
-use mathlib.Core.Path.{_≡_, refl, sym, ap, subst, _∙_}
+use Prim.Native.Nat.{ℕ, zero, suc, _+_, _-_, _*_, _<_, _≤_}
+use mathlib.Core.Path.{_≡_, refl, sym, subst}
 use mathlib.Core.List.{List}
-use mathlib.Core.Bool.{Bool, true, false, cond, not, _&&_, _||_}
+use mathlib.Core.Bool.{Bool, true, false, cond, _&&_, _||_}
 use native.Mathlib.Omega.{arith}
 use native.Mathlib.Nat.{add-zero}
 use lib.Dec.{eqb}
 use lib.ListN.{length, getD, set}
-use Rattle.digits.specs.Digits.{high, low}
+use Rattle.digits.specs.Digits.{low}
 use Rattle.digits.specs.Packed.{signOf, isMinus}
 use Rattle.digits.proofs.Truth.{zero-one}
 use Rattle.run.proofs.Goes.{Machine, machine, Right}
 use Rattle.decimal.specs.Value.{value, decimalField}
 use Rattle.decimal.specs.Promise.{untilBad}
-use Rattle.decimal.proofs.Places.{branch, fork, Marks, marked, view, Place, at, atWith, inR, ended, Reaches, Block, Refuses, on, then, told, said, on-refuses}
+use Rattle.decimal.proofs.Places.{branch, fork, Marks, marked, view, at, atWith, inR, ended, Reaches, Block, Refuses, on, then, told, said, on-refuses}
 use Rattle.decimal.proofs.Checks.{Fit}
-use Rattle.decimal.proofs.Fields.{Sound, field-sound}
 use Rattle.decimal.proofs.Pairs.{some-left}
 use Rattle.decimal.proofs.Pass1.{good, bad}
 use Rattle.decimal.proofs.Pass2.{Fits, Passing, all}
@@ -27,7 +26,7 @@ use Rattle.apsp.proofs.Own.{tests}
 use Rattle.apsp.proofs.Before.{begins, second-read, first-read, readied}
 use Rattle.apsp.proofs.Sign.{turnedMarks, good-sign, bad-sign}
 use Rattle.apsp.proofs.Sums.{some, signing}
-use Rattle.apsp.proofs.After.{ahead, three, signed-last, seals-zero, seals, again}
+use Rattle.apsp.proofs.After.{ahead, three, signed-last, seals-zero, seals}
 use Rattle.apsp.proofs.Amounts.{begun, after, pass-marks}
 
 -- ---- the first pass, over the m bytes before the last

@@ -6,7 +6,7 @@ use lib.Dec.{leb}
 use lib.IntN.{ℤ, natAbs, _+ℤ_, _-ℤ_}
 use lib.ListN.{getD, take, drop}
 use Rattle.digits.specs.Digits.{high, low}
-use Rattle.digits.specs.Packed.{signOf, isMinus, isNone, preferred, belowZero, sizeIn, signedIn, signedBytes}
+use Rattle.digits.specs.Packed.{signOf, isNone, preferred, belowZero, signedIn, signedBytes}
 use Rattle.decimal.specs.Value.{decimalField}
 
 -- how many digits stand before the sign

@@ -8,7 +8,7 @@ ghost use Rattle.run.specs.Run.{runOf};
 ghost use Rattle.arguments.specs.Arguments.{digitsFit};
 ghost use Rattle.decimal.specs.Entry.{bound, fromRun};
 ghost use Rattle.text.specs.Text.{putOf, roomAfter};
-ghost use Rattle.board.specs.Adds.{firstStart, secondStart, fieldLength, laidOut, hasSigns, answerOf, saidOf};
+ghost use Rattle.board.specs.Adds.{fieldLength, laidOut, hasSigns, answerOf, saidOf};
 use crate::go;
 use crate::go::View;
 use crate::options;
@@ -105,32 +105,26 @@ fn summed(
     ensures { λ r. ⌜ outcome (r .added) (now (main .exit)) (now (local .exit)) ≡ answerOf operation (now (main .entry)) (now (local .entry)) size ⌝ }
 {
     match operation {
-        Operation::Add(carry) => {
-            let start = decimal::start(0x100, 0x200, size as u8, carry);
-            answered(
-                view,
-                &decimal::words(),
-                start,
-                decimal::SUMMED,
-                size,
-                main,
-                local,
-                room,
-            )
-        }
-        Operation::Signed(subtract) => {
-            let start = apsp::start(0x100, 0x200, size as u8, subtract);
-            answered(
-                view,
-                &apsp::words(),
-                start,
-                apsp::DONE,
-                size,
-                main,
-                local,
-                room,
-            )
-        }
+        Operation::Add(carry) => answered(
+            view,
+            &decimal::words(),
+            decimal::start(0x100, 0x200, size as u8, carry),
+            decimal::SUMMED,
+            size,
+            main,
+            local,
+            room,
+        ),
+        Operation::Signed(subtract) => answered(
+            view,
+            &apsp::words(),
+            apsp::start(0x100, 0x200, size as u8, subtract),
+            apsp::DONE,
+            size,
+            main,
+            local,
+            room,
+        ),
     }
 }
 

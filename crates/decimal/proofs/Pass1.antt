@@ -1,6 +1,6 @@
 -- The first pass, a byte of each field at a time: 02, 04, 07, 05, 09, in any store that has these words. Assumes nothing.
 use Prim.Native.Nat.{ℕ, zero, suc, _+_, _*_, _<_, _≤_}
-use mathlib.Core.Path.{_≡_, refl, ap, subst, _∙_}
+use mathlib.Core.Path.{_≡_, refl, ap, _∙_}
 use mathlib.Core.List.{List, [], _∷_}
 use mathlib.Core.Bool.{Bool, true, false, cond, _&&_}
 use native.Mathlib.Omega.{arith}
@@ -15,12 +15,11 @@ use Rattle.machine.specs.Branch.{nextOf}
 use Rattle.machine.specs.Storage.{accessOf}
 use Rattle.machine.specs.Status.{statusOf}
 use Rattle.machine.specs.Modelled.{unmodelledOf}
-use Rattle.machine.specs.declared.State.{State}
 use Rattle.decimal.specs.Program.{program}
 use Rattle.decimal.specs.Value.{decimalField}
 use Rattle.decimal.specs.Promise.{untilBad}
-use Rattle.decimal.proofs.Steps.{Has, Turn, run, back, walked}
-use Rattle.decimal.proofs.Places.{branch, Marks, view, Place, at, Block, then, said, look, Walks, walks, Refusing, then-refuses, refuse, saved}
+use Rattle.decimal.proofs.Steps.{Has, run, back}
+use Rattle.decimal.proofs.Places.{branch, Marks, view, Place, at, Block, then, said, look, walks, Refusing, then-refuses, refuse, saved}
 use Rattle.decimal.proofs.Pairs.{up, held, address, within, one-less, none-left, some-left}
 
 abbrev pub testing : List ℕ

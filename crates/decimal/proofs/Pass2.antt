@@ -1,6 +1,6 @@
 -- The second pass, a byte of each field at a time, downward: 0A, 0C to 0F, and four words of which the program's own make the sum. Assumes nothing.
 use Prim.Native.Nat.{ℕ, zero, suc, _+_, _*_, _<_, _≤_}
-use mathlib.Core.Path.{_≡_, refl, sym, ap, subst, _∙_}
+use mathlib.Core.Path.{_≡_, refl, ap, _∙_}
 use mathlib.Core.List.{List, [], _∷_}
 use mathlib.Core.Bool.{Bool, true, false}
 use native.Mathlib.Omega.{arith}
@@ -16,9 +16,9 @@ use Rattle.machine.specs.Storage.{accessOf}
 use Rattle.machine.specs.Status.{statusOf}
 use Rattle.machine.specs.Modelled.{unmodelledOf}
 use Rattle.decimal.specs.Program.{program}
-use Rattle.decimal.proofs.Steps.{Has, Turn, run, back}
-use Rattle.decimal.proofs.Places.{branch, Marks, halves, view, Place, at, atWith, inD, Block, then, said, look, Walks, walks, saved}
-use Rattle.decimal.proofs.Pairs.{down, held, address, within, same, some-left}
+use Rattle.decimal.proofs.Steps.{Has, run, back}
+use Rattle.decimal.proofs.Places.{branch, Marks, view, at, atWith, inD, Block, then, said, look, walks, saved}
+use Rattle.decimal.proofs.Pairs.{down, address, within, same, some-left}
 
 -- the words that lead to the sum
 abbrev pub leading : List ℕ

@@ -1,9 +1,8 @@
 -- The shipped words beside the passes: the store has its words; those that sum, 10 to 13; those before, between and after. Assumes nothing.
-use Prim.Native.Nat.{ℕ, zero, suc, _+_, _*_, _/_, _%_, _<_, _≤_}
-use mathlib.Core.Path.{_≡_, refl, sym, ap, subst, _∙_}
+use Prim.Native.Nat.{ℕ, suc, _<_, _≤_}
+use mathlib.Core.Path.{_≡_, refl, ap, _∙_}
 use mathlib.Core.List.{List, [], _∷_}
 use mathlib.Core.Bool.{Bool, true, false}
-use native.Mathlib.Omega.{arith}
 use lib.Count.{ones}
 use lib.Dec.{T, eqb}
 use lib.ListN.{length, getD, set}
@@ -22,7 +21,7 @@ use Rattle.run.proofs.Goes.{Machine, machine, Halts, Right}
 use Rattle.decimal.specs.Program.{program, shipped}
 use Rattle.decimal.specs.Entry.{start, SUMMED}
 use Rattle.decimal.proofs.Steps.{Has, has, addresses, idle, Turn, run, allGoing, turns, stop}
-use Rattle.decimal.proofs.Places.{branch, Marks, marked, marks, halves, view, showing, Place, at, atWith, inD, ended, Reaches, Block, then, said, look, look-with, Walks, walks, saved}
+use Rattle.decimal.proofs.Places.{branch, Marks, marked, marks, view, Place, at, atWith, inD, ended, Reaches, Block, look, look-with, Walks, walks, saved}
 use Rattle.decimal.proofs.Pairs.{held, address, within, starts, one-less, none-left, same, kept-carry}
 use Rattle.decimal.proofs.Pass1.{testing}
 use Rattle.decimal.proofs.Pass2.{leading, Summing}

@@ -1,6 +1,6 @@
 -- The shipped words from start to stop. Assumes nothing.
-use Prim.Native.Nat.{ℕ, zero, suc, _+_, _*_, _^_, _<_, _≤_}
-use mathlib.Core.Path.{_≡_, refl, sym, ap, subst, _∙_}
+use Prim.Native.Nat.{ℕ, zero, suc, _+_, _*_, _<_, _≤_}
+use mathlib.Core.Path.{_≡_, refl}
 use mathlib.Core.List.{List}
 use mathlib.Core.Bool.{Bool, true, false, cond, _&&_}
 use native.Mathlib.Omega.{arith}
@@ -12,9 +12,9 @@ use Rattle.decimal.specs.Value.{value, decimalField}
 use Rattle.decimal.specs.Program.{shipped}
 use Rattle.decimal.specs.Entry.{start, SUMMED}
 use Rattle.decimal.specs.Promise.{untilBad}
-use Rattle.decimal.proofs.Places.{Marks, marked, view, Place, at, ended, Reaches, Refuses, on, then, told, on-refuses}
+use Rattle.decimal.proofs.Places.{Marks, marked, view, at, ended, Reaches, Refuses, on, then, told, on-refuses}
 use Rattle.decimal.proofs.Checks.{Fit}
-use Rattle.decimal.proofs.Fields.{Sound, field-sound}
+use Rattle.decimal.proofs.Fields.{field-sound}
 use Rattle.decimal.proofs.Pass1.{good, bad}
 use Rattle.decimal.proofs.Pass2.{Fits, Passing, passing, pass, all}
 use Rattle.decimal.proofs.Stands.{Stands, stands}

@@ -28,10 +28,6 @@ signMark digit = cond (isMinus (signOf digit)) 45 43
 abbrev pub signedEnd : ℕ → Bool → List ℕ
 signedEnd byte overflow = hexadecimal 1 (high byte) ++ (signMark (low byte) ∷ cond overflow (ascii " OVERFLOW\n") (ascii "\n"))
 
--- its length
-abbrev pub endSize : Bool → ℕ
-endSize overflow = cond overflow 12 3
-
 -- the sum, as it stands in the first field, and the carry or the overflow
 abbrev pub sumOf : Bool → List ℕ → Bool → List ℕ
 sumOf false field carry = toldOf field (carryEnd carry)

@@ -1,10 +1,10 @@
 // What an addition came to, as text.
 ghost use mathlib.Core.Path.{_≡_};
-ghost use mathlib.Core.Bool.{true};
+ghost use mathlib.Core.Bool.{true, cond};
 ghost use Prim.Native.Nat.{_-_, _≤_};
 ghost use lib.ListN.{length, take};
 ghost use Rattle.text.specs.Text.{putOf, roomAfter};
-ghost use Rattle.results.specs.Results.{toldOf, carryEnd, signMark, endSize, signedEnd, sumOf, badOf, refusalOf, resultOf};
+ghost use Rattle.results.specs.Results.{toldOf, carryEnd, signMark, signedEnd, sumOf, badOf, refusalOf, resultOf};
 use decimal::Added;
 use text::Written;
 
@@ -49,14 +49,14 @@ fn sign_mark(digit: u8) -> u8
 
 // How many bytes the end of a signed sum takes.
 fn end_size(overflow: bool) -> usize
-    ensures { λ r. ⌜ (r ≡ endSize overflow) × (r ≤ 12) ⌝ }
+    ensures { λ r. ⌜ (r ≡ cond overflow 12 3) × (r ≤ 12) ⌝ }
 {
     if overflow { 12 } else { 3 }
 }
 
 // The last byte as a digit and the sign's mark, and how the line ends.
 fn signed_end(byte: u8, overflow: bool) -> [u8; 12]
-    ensures { λ r. ⌜ take (endSize overflow) r ≡ signedEnd byte overflow ⌝ }
+    ensures { λ r. ⌜ take (cond overflow 12 3) r ≡ signedEnd byte overflow ⌝ }
 {
     let mut end = *b"0+ OVERFLOW\n";
     text::put_hexadecimal((byte / 16) as u64, &mut end[0..1]);

@@ -2,7 +2,7 @@
 //! many cycles the shipped one takes is by its paper's table.
 
 use crate::bits::both_decimal;
-use crate::decimal::refusal;
+use crate::decimal::numbers;
 use crate::signed::{put_number, sign_and_size};
 use crate::Refusal;
 
@@ -22,13 +22,10 @@ pub fn add_signed(
     length: usize,
     subtract: bool,
 ) -> Outcome {
-    let number = refusal(main, local, first, second, length);
-    if number != 0 {
-        return Outcome::Refused { number };
-    }
-    let values = (value(&main[first..first + length]), value(&main[second..second + length]));
-    let (Some(augend), Some(addend)) = values else {
-        return Outcome::Bad;
+    let (augend, addend) = match numbers(main, local, [first, second], length, value) {
+        Ok(Some(numbers)) => numbers,
+        Ok(None) => return Outcome::Bad,
+        Err(number) => return Outcome::Refused { number },
     };
     // 31 digits are under 103 bits, so nothing here leaves 127.
     let total = if subtract { augend - addend } else { augend + addend };

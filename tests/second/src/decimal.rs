@@ -23,13 +23,10 @@ pub fn add_decimal(
     length: usize,
     carry_in: bool,
 ) -> Outcome {
-    let number = refusal(main, local, first, second, length);
-    if number != 0 {
-        return Outcome::Refused { number };
-    }
-    let values = (value(&main[first..first + length]), value(&main[second..second + length]));
-    let (Some(augend), Some(addend)) = values else {
-        return Outcome::BadDigit;
+    let (augend, addend) = match numbers(main, local, [first, second], length, value) {
+        Ok(Some(numbers)) => numbers,
+        Ok(None) => return Outcome::BadDigit,
+        Err(number) => return Outcome::Refused { number },
     };
     // 32 digits are under 107 bits, so no sum here leaves 128.
     let total = augend + addend + u128::from(carry_in);
@@ -38,8 +35,22 @@ pub fn add_decimal(
     Outcome::Summed { carry: total >= bound }
 }
 
+/// The numbers in both fields, none where one is bad; or what refuses the fields.
+pub(crate) fn numbers<T>(
+    main: &[u8],
+    local: &[u8],
+    [first, second]: [usize; 2],
+    length: usize,
+    value: fn(&[u8]) -> Option<T>,
+) -> Result<Option<(T, T)>, Refusal> {
+    match refusal(main, local, first, second, length) {
+        0 => Ok(value(&main[first..first + length]).zip(value(&main[second..second + length]))),
+        number => Err(number),
+    }
+}
+
 /// The first of 1, 12, 13, 14 that is given, or 0.
-pub(crate) fn refusal(main: &[u8], local: &[u8], first: usize, second: usize, length: usize) -> Refusal {
+fn refusal(main: &[u8], local: &[u8], first: usize, second: usize, length: usize) -> Refusal {
     // A start may be as large as the machine's numbers go.
     let outside = |start: usize| start.checked_add(length).is_none_or(|end| end > main.len());
     let checks = [

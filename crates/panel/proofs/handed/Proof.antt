@@ -1,4 +1,5 @@
 -- 19, then the words. Assumes nothing.
+use Prim.Native.Nat.{_<_}
 use mathlib.Core.Path.{ap, _∙_}
 use borrow.Author.Tests.{lt-ltb, le-ltb}
 use borrow.Author.Needs.{needs}
@@ -9,7 +10,10 @@ use Rattle.panel.proofs.handed.Statement.{statement}
 use Rattle.panel.proofs.handed.Tie as tie
 
 returns : tie.Need-returns
-returns c = rw (lt-ltb _ _ (c .if1 .taken))
+returns c =
+    let a = c .before .before .before .args in
+    let short : length (a .words .now) < length (a .program .now) = c .if1 .taken in
+    rw (lt-ltb _ _ short)
 
 returns-2 : tie.Need-returns-2
 returns-2 c =

@@ -1,5 +1,5 @@
 -- Either entry answers from the run of its words. Assumes nothing.
-use mathlib.Core.Path.{_≡_, _∙_}
+use mathlib.Core.Path.{_∙_}
 use denote.Ref.{now}
 use borrow.Author.Needs.{needs}
 use Rattle.run.specs.Run.{runOf}
@@ -13,9 +13,9 @@ returns : tie.Need-returns
 unfolding addOf
 returns c =
     let went = c .before .before .before .before .before .before in
-    let words = went .before .before .before .before .before in
-    let begun = words .before in
-    let given = begun .before .before in
+    let begun = went .before .before .before .before in
+    let words = begun .before .before in
+    let given = words .before .before in
     let s = given .before .before .before .before .before in
     let a = s .args in
     rw (given .operation .given .1)
@@ -26,9 +26,9 @@ returns-2 : tie.Need-returns-2
 unfolding signedOf
 returns-2 c =
     let went = c .before .before .before .before .before .before in
-    let words = went .before .before .before .before .before in
-    let begun = words .before in
-    let given = begun .before .before in
+    let begun = went .before .before .before .before in
+    let words = begun .before .before in
+    let given = words .before .before in
     let s = given .before .before .before .before .before in
     let a = s .args in
     rw (given .operation2 .given .1)
@@ -40,16 +40,16 @@ summed-spec =
     tie.close
     (tie.spec
     (λ c. search needs)
-    (λ c. search needs)
-    (λ c κs. search needs)
-    (λ c κs. search needs)
-    (λ c. search needs)
     (λ c κs. search needs)
     (λ c. search needs)
     (λ c. search needs)
     (λ c κs. search needs)
     (λ c κs. search needs)
     (λ c. search needs)
+    (λ c κs. search needs)
+    (λ c. search needs)
+    (λ c. search needs)
+    (λ c κs. search needs)
     (λ c κs. search needs)
     (λ c. search needs)
     (λ c. search needs)

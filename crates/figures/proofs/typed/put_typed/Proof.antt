@@ -1,10 +1,10 @@
 -- By the marks, in the order of the definition. Assumes nothing.
-use mathlib.Core.Path.{_≡_, sym, _∙_}
+use mathlib.Core.Path.{_≡_, sym, ap, _∙_}
 use mathlib.Core.Bool.{false}
 use lib.ListN.{getD}
 use borrow.Author.Needs.{needs}
 use borrow.Author.Tests.{eq-eqb, ne-eqb}
-use Rattle.figures.specs.Typed.{fromLast, isMark, typedDigits}
+use Rattle.figures.specs.Typed.{fromLast, isMark, signFor, typedDigits}
 use Rattle.figures.proofs.typed.put_typed.Statement.{statement}
 use Rattle.figures.proofs.typed.put_typed.Tie as tie
 
@@ -24,7 +24,8 @@ returns c =
     let digits = sign .before in
     let mark = digits .before .before in
     let first = mark .before .byte-at .ensures in
-    rw (rw first at (sym (mark .is-mark .ensures) ∙ digits .before .if1 .taken)) (rw (digits .without .ensures, sign .sign-for .ensures, first) at (put .put-with .ensures))
+    let is : sign .sign-for .result ≡ signFor (getD (mark .before .before .before .before .args .text .now) 0 0) = sign .sign-for .ensures ∙ ap signFor first in
+    rw (rw first at (sym (mark .is-mark .ensures) ∙ digits .before .if1 .taken)) (rw (digits .without .ensures, is) at (put .put-with .ensures))
 
 returns-2 : tie.Need-returns-2
 unfolding typedDigits
@@ -34,8 +35,9 @@ returns-2 c =
     let digits = sign .before in
     let mark = digits .before .before in
     let last = mark .before in
+    let is : sign .sign-for2 .result ≡ signFor (fromLast 0 (last .before .before .before .before .before .before .args .text .now)) = sign .sign-for2 .ensures ∙ ap signFor (last .from-last .ensures) in
     rw (not-first (last .before), rw (last .from-last .ensures) at (sym (mark .is-mark2 .ensures) ∙ digits .before .if2 .taken))
-    (rw (digits .without2 .ensures, sign .sign-for2 .ensures, last .from-last .ensures) at (put .put-with2 .ensures))
+    (rw (digits .without2 .ensures, is) at (put .put-with2 .ensures))
 
 returns-3 : tie.Need-returns-3
 unfolding typedDigits
