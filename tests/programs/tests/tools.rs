@@ -8,7 +8,8 @@ use std::os::unix::fs::{symlink, PermissionsExt};
 use std::path::{Path, PathBuf};
 use std::process::{Command, Stdio};
 
-/// A repository of one crate, with the tools and the lister's root command of this one, and a kit beside it.
+/// A repository of one crate, with the tools and the lister's root command of this one, and a kit beside it. Its program is a
+/// script, which every processor runs as it is.
 struct Bench {
     here: PathBuf,
 }
@@ -34,9 +35,10 @@ impl Bench {
         for part in ["kit", "tools", "crates/deck"] {
             fs::create_dir_all(here.join(part)).expect("a folder");
         }
-        for tool in ["tools/proved", "tools/program", "tools/x86", "lister"] {
+        for tool in ["tools/proved", "tools/program", "lister"] {
             fs::copy(root().join(tool), here.join(tool)).expect(tool);
         }
+        script(&here.join("tools/x86"), "#!/bin/sh\nexec \"$@\"\n");
         script(&here.join("kit/rt"), KIT);
         let bench = Bench { here };
         bench.write("crates.txt", "deck:\n");
