@@ -1,9 +1,8 @@
-// Times the proved engine, by rule and by table, and the plain engine on the same store, and prints nanoseconds a cycle.
+// Times the proved engine, by rule and by table, and the plain engine on the same store, and prints nanoseconds a cycle: host
+// SMALL.so LARGE.so, the two boards' libraries.
+#include "../../include/panel.h"
+#include "drawn.h"
 #include "plain.h"
-
-typedef unsigned char u8;
-typedef unsigned int u32;
-typedef unsigned long u64;
 
 struct timespec {
     long sec, nsec;
@@ -12,9 +11,8 @@ struct timespec {
 extern int clock_gettime(int, struct timespec *);
 extern int printf(const char *, ...);
 extern int memcmp(const void *, const void *, u64);
-
-// The proved engine, from a state of zeros: cycles that ran, and 2^32 times WX after them.
-extern u64 speed_run(const u64 *, u64, u8 *, u64, u8 *, u64, u32, u8);
+extern void *dlopen(const char *, int);
+extern void *dlsym(void *, const char *);
 
 enum { WORDS = 4096, MAIN = 65536, LOCAL = 256, BUDGET = 1000000, TURNS = 25 };
 
@@ -23,33 +21,6 @@ static u64 store[WORDS];
 struct storage {
     u8 main[MAIN], local[LOCAL];
 };
-
-static u64 x = 1;
-
-static u64 next(void) {
-    x ^= x << 13;
-    x ^= x >> 7;
-    return x ^= x << 17;
-}
-
-static u64 pick(const char *codes, int n) { return (u8)codes[next() % n]; }
-
-static u64 even(u64 bits) { return !(__builtin_popcountl(bits) & 1); }
-
-// A modelled word that does not stop, with its parity.
-static u64 word(u64 at) {
-    u64 cl = pick("\0\1\2\5\6\7\10\11\12\13\15\16", 12), cm = next() % 6, ck = next() & 15;
-    u64 ca = cl == 2 ? next() & 15 : pick("\4\5\7\10\11\12\13\14\15\16\17", 11);
-    u64 cu = cm >= 3 ? pick("\0\1\3", 3) : cl == 2 ? 0 : next() % 2 * 2;
-    u64 pk = cl == 2 ? even(ca) : even(ck);
-    u64 w = (next() & 63) << 49 | pick("\0\1\2\3\6\7\10\11\12\13\14\15\16\17", 14) << 43 | cl << 39 | cm << 36 | cu << 34 |
-            ca << 30 | (next() & 3) << 27 | ck << 23 | pk << 21 |
-            pick("\0\5\6\7\10\11\12\13\14\15\16\17", 12) << 16 | pick("\0\1\2\3\5\6\7", 7) << 13 |
-            (next() & 3) << 11 | (next() & 3) << 9 | (next() & 7) << 6 |
-            pick("\0\1\2\3\4\6\7\10\11\12\13\14\15", 13) << 2;
-    w |= even(w & 0x7F000000000000) << 48 | even(at) << 47;
-    return w | even(w & 0xFFFFDFB00000) << 20 | even(w & 0xFFFFF);
-}
 
 static void draw(struct storage *s) {
     x = 7;
@@ -64,14 +35,28 @@ static double now(void) {
 }
 
 static u64 by_plain(struct storage *s) {
-    struct plain state = {{0}};
+    struct plain state = {0};
     u64 done = plain_run(store, WORDS, s->main, MAIN, s->local, &state, BUDGET);
     return done | (u64)state.wx << 32;
 }
 
-static u64 by_rule(struct storage *s) { return speed_run(store, WORDS, s->main, MAIN, s->local, LOCAL, BUDGET, 0); }
+static __typeof__(panel_run) *small, *large;
 
-static u64 by_table(struct storage *s) { return speed_run(store, WORDS, s->main, MAIN, s->local, LOCAL, BUDGET, 1); }
+// A run from a record of zeros: how many cycles ran, and 2^32 times WX after them.
+static u64 by(__typeof__(panel_run) *run, struct storage *s) {
+    u8 state[PANEL_STATE] = {0};
+    u64 done = run(store, WORDS, s->main, MAIN, s->local, LOCAL, state, PANEL_STATE, BUDGET) >> 32;
+    return done | (u64)(state[PANEL_WX_HIGH] << 8 | state[PANEL_WX_LOW]) << 32;
+}
+
+static u64 by_rule(struct storage *s) { return by(small, s); }
+
+static u64 by_table(struct storage *s) { return by(large, s); }
+
+static __typeof__(panel_run) *run_of(const char *file) {
+    void *library = dlopen(file, 2);
+    return library ? dlsym(library, "panel_run") : 0;
+}
 
 typedef u64 engine(struct storage *);
 
@@ -83,7 +68,11 @@ static double timed(engine *run, struct storage *s, u64 *answer) {
     return (now() - from) / BUDGET;
 }
 
-int main(void) {
+int main(int count, char **arguments) {
+    if (count != 3 || !(small = run_of(arguments[1])) || !(large = run_of(arguments[2]))) {
+        printf("host needs the two boards' libraries\n");
+        return 1;
+    }
     static struct storage s[3];
     static engine *const engines[3] = {by_plain, by_rule, by_table};
     u64 answer[3];
@@ -97,7 +86,7 @@ int main(void) {
         }
     }
     double plain = best[0], rule = best[1], table = best[2];
-    if ((u32)answer[0] != BUDGET || answer[1] != answer[0] || answer[2] != answer[0] ||
+    if ((uint32_t)answer[0] != BUDGET || answer[1] != answer[0] || answer[2] != answer[0] ||
         memcmp(&s[0], &s[1], sizeof s[0]) || memcmp(&s[0], &s[2], sizeof s[0])) {
         printf("the engines differ: %lx %lx %lx\n", answer[0], answer[1], answer[2]);
         return 1;

@@ -12,8 +12,10 @@ use borrow.Author.Tests.{leb-true, leb-false, le-leb, eqb-true, eq-eqb}
 use Rattle.digits.specs.Bits.{one}
 use Rattle.digits.proofs.Bits.{one-lt}
 use Rattle.digits.specs.Digits.{high, low, digits, bothDecimal, val}
+use Rattle.rule.specs.Correction.{lowered}
+use Rattle.rule.proofs.Laws.{lowered-lt}
 use Rattle.adder.specs.Gates.{gatedA, gatedB}
-use Rattle.adder.specs.Adder.{isDecimal, isComplement, complement, turned, sixes, lowered, arithmetic, logical, carryIn, operations, operated, enteringB, sumOf}
+use Rattle.adder.specs.Adder.{isDecimal, isComplement, complement, turned, sixes, arithmetic, logical, carryIn, operations, operated, enteringB, sumOf}
 use Rattle.adder.specs.declared.Controls.{Controls}
 use Rattle.adder.specs.declared.Sum.{Sum}
 use Rattle.digits.proofs.Table.{any}
@@ -21,10 +23,6 @@ use Rattle.digits.proofs.Truth.{both, same-test}
 use Rattle.adder.proofs.Gates.{gated-a-lt, gated-b-lt}
 
 -- ---- one digit
-
-pub lowered-lt : (carried : Bool) (digit : ℕ) → digit < 16 → lowered carried digit < 16
-lowered-lt true digit h = h
-lowered-lt false digit h = omega arith
 
 -- what a digit's sum leaves when corrected by its own carry, and that carry
 abbrev pub left : ℕ → ℕ

@@ -1,4 +1,3 @@
 pub mod Gates
 pub mod Laws
 pub mod Promises
-pub mod ByTable

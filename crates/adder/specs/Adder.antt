@@ -7,6 +7,7 @@ use lib.Dec.{eqb, leb}
 use lib.ListN.{getD}
 use Rattle.digits.specs.Bits.{one}
 use Rattle.digits.specs.Digits.{high, low, digits}
+use Rattle.rule.specs.Correction.{corrected}
 use Rattle.adder.specs.Gates.{gatedA, gatedB}
 use Rattle.adder.specs.declared.Controls.{Controls}
 use Rattle.adder.specs.declared.Uncorrected.{Uncorrected}
@@ -52,19 +53,9 @@ summed decimal a b carry =
       decimal = decimal;
     }
 
--- "In decimal, each digit with no carry out is then lowered by six modulo 16."
-abbrev pub lowered : Bool → ℕ → ℕ
-lowered carried digit = cond carried digit ((digit + 10) % 16)
-
--- the byte of a sum, by the carries out of its low and its high digit
-abbrev pub corrected : Bool → Bool → ℕ → ℕ
-corrected lowCarry highCarry byte = digits (lowered highCarry (high byte)) (lowered lowCarry (low byte))
-
-abbrev pub correctedOf : Uncorrected → ℕ
-correctedOf u = corrected (u .«digit_carry») (u .ac) (u .byte)
-
+-- "In decimal" the byte is corrected, by the carries out of its two digits
 abbrev pub resultOf : Uncorrected → ℕ
-resultOf u = cond (u .decimal) (correctedOf u) (u .byte)
+resultOf u = cond (u .decimal) (corrected (u .«digit_carry») (u .ac) (u .byte)) (u .byte)
 
 -- the answer. "Z0 is set when the final result is 0."
 abbrev pub finished : Uncorrected → Sum

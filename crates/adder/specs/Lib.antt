@@ -1,3 +1,2 @@
 pub mod Gates
 pub mod Adder
-pub mod Table

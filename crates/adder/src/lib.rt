@@ -1,13 +1,7 @@
 // The arithmetic unit, from the bytes that CA and CB chose to the result and its latches.
 ghost use mathlib.Core.Path.{_≡_};
-ghost use Prim.Native.Nat.{_<_};
 ghost use Rattle.adder.specs.Gates.{gatedA, gatedB};
-ghost use Rattle.adder.specs.Adder.{isComplement, isDecimal, turned, sixes, entering, summed, lowered, correctedOf, resultOf, finished, uncarried, carryIn, operated, enteringB, sumOf, workOf};
-
-// The correction by the table. It makes the promise that the rule makes, so a caller may have either.
-mod table;
-
-pub use table::add_by_table;
+ghost use Rattle.adder.specs.Adder.{isComplement, isDecimal, turned, sixes, entering, summed, resultOf, finished, uncarried, carryIn, operated, enteringB, sumOf, workOf};
 
 // What is to be done: four fields of the word, and the bits of S that CV and CC may ask.
 pub struct Controls {
@@ -20,12 +14,12 @@ pub struct Controls {
 }
 
 // The sum before correction: its byte, its carries, and whether it is to be corrected.
-pub(crate) struct Uncorrected {
-    pub(crate) byte: u8,
-    pub(crate) ac: bool,
-    pub(crate) one_bc: bool,
-    pub(crate) digit_carry: bool,
-    pub(crate) decimal: bool,
+struct Uncorrected {
+    byte: u8,
+    ac: bool,
+    one_bc: bool,
+    digit_carry: bool,
+    decimal: bool,
 }
 
 // The result and its latches, and for the board's jumper the sum before correction with its carry out of the low digit.
@@ -179,7 +173,7 @@ fn operated(cc: u8, decimal: bool, a: u8, b: u8, carry: bool) -> Uncorrected
     }
 }
 
-pub(crate) fn before_correction(a: u8, b: u8, c: Controls) -> Uncorrected
+fn before_correction(a: u8, b: u8, c: Controls) -> Uncorrected
     ensures { λ r. ⌜ finished r ≡ sumOf a b c ⌝ }
 {
     operated(
@@ -191,31 +185,20 @@ pub(crate) fn before_correction(a: u8, b: u8, c: Controls) -> Uncorrected
     )
 }
 
-// A digit that no carry left is lowered by six.
-fn lowered(carried: bool, digit: u8) -> u8
-    requires { ⌜ digit < 16 ⌝ }
-    ensures { λ r. ⌜ r ≡ lowered carried digit ⌝ }
-{
-    if carried { digit } else { (digit + 10) % 16 }
-}
-
-fn corrected(u: Uncorrected) -> u8
-    ensures { λ r. ⌜ r ≡ correctedOf u ⌝ }
-{
-    lowered(u.ac, u.byte / 16) * 16 + lowered(u.digit_carry, u.byte % 16)
-}
-
 fn result(u: Uncorrected) -> u8
     ensures { λ r. ⌜ r ≡ resultOf u ⌝ }
 {
-    if u.decimal { corrected(u) } else { u.byte }
+    if u.decimal {
+        correction::corrected(u.digit_carry, u.ac, u.byte)
+    } else {
+        u.byte
+    }
 }
 
-// The making of the answer, whichever way it was corrected.
-pub(crate) fn finished(u: Uncorrected, result: u8) -> Sum
-    requires { ⌜ result ≡ resultOf u ⌝ }
+fn finished(u: Uncorrected) -> Sum
     ensures { λ r. ⌜ r ≡ finished u ⌝ }
 {
+    let result = result(u);
     Sum {
         result: result,
         ac: u.ac,
@@ -226,12 +209,11 @@ pub(crate) fn finished(u: Uncorrected, result: u8) -> Sum
     }
 }
 
-// Corrected by the two digit rules.
+// The result and its latches.
 pub fn add(a: u8, b: u8, c: Controls) -> Sum
     ensures { λ r. ⌜ r ≡ sumOf a b c ⌝ }
 {
-    let u = before_correction(a, b, c);
-    finished(u, result(u))
+    finished(before_correction(a, b, c))
 }
 
 // What the unit does with the bytes that CA and CB chose, step by step.

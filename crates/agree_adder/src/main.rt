@@ -1,9 +1,10 @@
-// Both adders against tests/second: every pair of bytes with either carry, every gate and operation, and the worked sums.
+// The adder against tests/second: every pair of bytes with either carry, every gate and operation, and the worked sums;
+// and both corrections, the rule and the table, of every sum.
 use adder::Controls;
 use adder::Sum;
 use libc::STDOUT_FILENO;
 
-// All that an adder hands back, as one number.
+// All that the adder hands back, as one number.
 fn value(z: Sum) -> u64 {
     let latches = digits::one(z.ac) as u64 * 8
         + digits::one(z.one_bc) as u64 * 4
@@ -12,10 +13,9 @@ fn value(z: Sum) -> u64 {
     z.result as u64 * 65536 + z.uncorrected as u64 * 256 + latches
 }
 
-// The digest after a case, which both adders answer.
-fn both(digest: u64, a: u8, b: u8, c: Controls) -> u64 {
-    let by_rule = agree::mix(digest, value(adder::add(a, b, c)));
-    agree::mix(by_rule, value(adder::add_by_table(a, b, c)))
+// The digest after a case.
+fn summed(digest: u64, a: u8, b: u8, c: Controls) -> u64 {
+    agree::mix(digest, value(adder::add(a, b, c)))
 }
 
 // Case `k` of all pairs with either carry, whole bytes, the carry in from S3.
@@ -28,7 +28,7 @@ fn pair(digest: u64, k: u32, cv: u8, s0: bool) -> u64 {
         s0: s0,
         s3: k % 2 == 1,
     };
-    both(digest, (k / 512 % 256) as u8, (k / 2 % 256) as u8, c)
+    summed(digest, (k / 512 % 256) as u8, (k / 2 % 256) as u8, c)
 }
 
 // All 2^17 of them, a digest for every 16,384.
@@ -53,7 +53,7 @@ fn gated(digest: u64, k: u32, x: u64) -> u64 {
         s0: k / 1024 % 2 == 1,
         s3: k / 2048 % 2 == 1,
     };
-    both(digest, (x / 256 % 256) as u8, (x / 65536 % 256) as u8, c)
+    summed(digest, (x / 256 % 256) as u8, (x / 65536 % 256) as u8, c)
 }
 
 // Every gate and operation, on 64 drawn pairs each.
@@ -80,7 +80,7 @@ fn wide(digest: u64, x: u64) -> u64 {
         s0: x / 0x100_0000_0000 % 2 == 1,
         s3: x / 0x200_0000_0000 % 2 == 1,
     };
-    both(
+    summed(
         digest,
         (x / 0x1_0000_0000_0000 % 256) as u8,
         (x / 0x100_0000_0000_0000) as u8,
@@ -101,13 +101,33 @@ fn beyond() {
     }
 }
 
+// The digest after a sum is corrected by the rule and by the table: 512 for the low digit's carry, and nine bits.
+fn corrected(digest: u64, k: u32) -> u64 {
+    let low_carry = k / 512 % 2 == 1;
+    let high_carry = k / 256 % 2 == 1;
+    let byte = (k % 256) as u8;
+    let by_rule = agree::mix(digest, rule::corrected(low_carry, high_carry, byte) as u64);
+    agree::mix(
+        by_rule,
+        table::corrected(low_carry, high_carry, byte) as u64,
+    )
+}
+
+// All 1,024 of them.
+fn corrections() {
+    agree::print_name(b"corrections by rule and by table");
+    let mut digest: u64 = 6;
+    for k in 0..1024u32 {
+        digest = corrected(digest, k);
+    }
+    agree::print_digest(1024, digest);
+}
+
 // A worked sum by its name: result, sum before correction, AC, 1BC, Z0 and the low digit's carry.
 fn worked(name: &[u8], a: u8, b: u8, c: Controls) {
     io::write_all(STDOUT_FILENO, name);
     io::write_all(STDOUT_FILENO, b" ");
     io::print_hex(STDOUT_FILENO, value(adder::add(a, b, c)), 6);
-    io::write_all(STDOUT_FILENO, b" ");
-    io::print_hex(STDOUT_FILENO, value(adder::add_by_table(a, b, c)), 6);
     io::write_all(STDOUT_FILENO, b"\n");
 }
 
@@ -179,4 +199,5 @@ fn main() {
     pairs(b"CV 3, S0 on", 3, true);
     gates();
     beyond();
+    corrections();
 }

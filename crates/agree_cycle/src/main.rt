@@ -1,4 +1,4 @@
-// Single cycles against tests/second, and the work that would be done in each: drawn words, states and storage sizes, by rule and by table.
+// Single cycles against tests/second, and the work that would be done in each: drawn words, states and storage sizes.
 use agree::Lent;
 use libc::STDOUT_FILENO;
 use machine::Cycled;
@@ -128,7 +128,7 @@ fn count(c: Cycled, counts: &mut [u32]) {
     agree::tally(counts, 256 + field_of(c) as usize);
 }
 
-fn by_rule(
+fn answered(
     digest: u64,
     store: &[u64],
     main: &mut [u8],
@@ -142,13 +142,8 @@ fn by_rule(
     mix_answer(worked, answer, main, local, s)
 }
 
-fn by_table(digest: u64, store: &[u64], main: &mut [u8], local: &mut [u8], s: State) -> u64 {
-    let answer = machine::cycle_by_table(store, main, local, s);
-    mix_answer(digest, answer, main, local, s)
-}
-
-// The case by the rule, with what is lent of each storage; its word is put first.
-fn lend_to_rule(
+// The case with what is lent of each storage; its word is put first.
+fn lend(
     c: Trial,
     digest: u64,
     store: &mut [u64],
@@ -160,7 +155,7 @@ fn lend_to_rule(
     let words = agree::at_most(c.lent.words, store.len());
     let m = agree::at_most(c.lent.main, main.len());
     let l = agree::at_most(c.lent.local, local.len());
-    by_rule(
+    answered(
         digest,
         &store[0..words],
         &mut main[0..m],
@@ -170,27 +165,11 @@ fn lend_to_rule(
     )
 }
 
-// The same by the table, which has storages of its own.
-fn lend_to_table(c: Trial, digest: u64, store: &[u64], main: &mut [u8], local: &mut [u8]) -> u64 {
-    let words = agree::at_most(c.lent.words, store.len());
-    let m = agree::at_most(c.lent.main, main.len());
-    let l = agree::at_most(c.lent.local, local.len());
-    by_table(
-        digest,
-        &store[0..words],
-        &mut main[0..m],
-        &mut local[0..l],
-        c.state,
-    )
-}
-
 fn case(
     g: Going,
     store: &mut [u64],
     main: &mut [u8],
     local: &mut [u8],
-    main_t: &mut [u8],
-    local_t: &mut [u8],
     counts: &mut [u32],
 ) -> Going {
     let a = agree::next(g.x);
@@ -200,10 +179,9 @@ fn case(
     let f = agree::next(e);
     let last = agree::next(f);
     let case = drawn(a, b, c, e, f, last);
-    let d = lend_to_rule(case, g.digest, store, main, local, counts);
     Going {
         x: last,
-        digest: lend_to_table(case, d, store, main_t, local_t),
+        digest: lend(case, g.digest, store, main, local, counts),
     }
 }
 
@@ -213,18 +191,15 @@ fn cases(
     store: &mut [u64],
     main: &mut [u8],
     local: &mut [u8],
-    main_t: &mut [u8],
-    local_t: &mut [u8],
     counts: &mut [u32],
 ) -> Going {
     let mut g = g;
     for k in 0..10000u32 {
-        g = case(g, store, main, local, main_t, local_t, counts);
+        g = case(g, store, main, local, counts);
     }
-    let d = agree::mix_bytes(agree::mix_bytes(g.digest, main), local);
     Going {
         x: g.x,
-        digest: agree::mix_bytes(agree::mix_bytes(d, main_t), local_t),
+        digest: agree::mix_bytes(agree::mix_bytes(g.digest, main), local),
     }
 }
 
@@ -252,17 +227,11 @@ fn report_fields(counts: &[u32]) {
     agree::print_count(b"AS", agree::counted(counts, 256 + 21));
 }
 
-fn blocks(
-    store: &mut [u64],
-    main: &mut [u8],
-    local: &mut [u8],
-    main_t: &mut [u8],
-    local_t: &mut [u8],
-) {
+fn blocks(store: &mut [u64], main: &mut [u8], local: &mut [u8]) {
     let mut counts = [0u32; 512];
     let mut g = Going { x: 13, digest: 4 };
     for k in 0..24u32 {
-        g = cases(g, store, main, local, main_t, local_t, &mut counts);
+        g = cases(g, store, main, local, &mut counts);
         agree::print_digest(k as u64 * 10000 + 10000, g.digest);
     }
     report(&counts);
@@ -272,11 +241,7 @@ fn main() {
     let mut store = [0u64; 4097];
     let mut main = [0u8; 65537];
     let mut local = [0u8; 257];
-    let mut main_t = [0u8; 65537];
-    let mut local_t = [0u8; 257];
     agree::fill(17, &mut main);
     agree::fill(19, &mut local);
-    agree::fill(17, &mut main_t);
-    agree::fill(19, &mut local_t);
-    blocks(&mut store, &mut main, &mut local, &mut main_t, &mut local_t);
+    blocks(&mut store, &mut main, &mut local);
 }

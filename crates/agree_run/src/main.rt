@@ -1,4 +1,4 @@
-// Runs against tests/second: drawn stores, states, sizes and budgets, by rule and by table.
+// Runs against tests/second: drawn stores, states, sizes and budgets.
 use agree::Lent;
 use libc::STDOUT_FILENO;
 use machine::State;
@@ -129,7 +129,7 @@ fn mix_finished(digest: u64, f: Finished, main: &[u8], local: &[u8]) -> u64 {
     agree::mix_bytes(agree::mix_bytes(d, main), local)
 }
 
-fn by_rule(
+fn ended(
     g: Going,
     store: &[u64],
     main: &mut [u8],
@@ -147,13 +147,8 @@ fn by_rule(
     }
 }
 
-fn by_table(digest: u64, store: &[u64], main: &mut [u8], local: &mut [u8], t: Trial) -> u64 {
-    let f = run::run_by_table(store, main, local, t.state, t.budget);
-    mix_finished(digest, f, main, local)
-}
-
-// The run by the rule, with what is lent of each storage.
-fn lend_to_rule(
+// The run with what is lent of each storage.
+fn lend(
     t: Trial,
     g: Going,
     store: &[u64],
@@ -164,7 +159,7 @@ fn lend_to_rule(
     let words = agree::at_most(t.lent.words, store.len());
     let m = agree::at_most(t.lent.main, main.len());
     let l = agree::at_most(t.lent.local, local.len());
-    by_rule(
+    ended(
         g,
         &store[0..words],
         &mut main[0..m],
@@ -174,27 +169,11 @@ fn lend_to_rule(
     )
 }
 
-// The same by the table, which has storages of its own.
-fn lend_to_table(t: Trial, digest: u64, store: &[u64], main: &mut [u8], local: &mut [u8]) -> u64 {
-    let words = agree::at_most(t.lent.words, store.len());
-    let m = agree::at_most(t.lent.main, main.len());
-    let l = agree::at_most(t.lent.local, local.len());
-    by_table(
-        digest,
-        &store[0..words],
-        &mut main[0..m],
-        &mut local[0..l],
-        t,
-    )
-}
-
 fn case(
     g: Going,
     store: &mut [u64],
     main: &mut [u8],
     local: &mut [u8],
-    main_t: &mut [u8],
-    local_t: &mut [u8],
     counts: &mut [u32],
 ) -> Going {
     let a = agree::next(g.x);
@@ -202,21 +181,11 @@ fn case(
     let e = agree::next(c);
     let t = drawn(a, c, e);
     let x = fill_store(e, t.rate, store);
-    let ruled = lend_to_rule(t, g, store, main, local, counts);
-    Going {
-        x: x,
-        digest: lend_to_table(t, ruled.digest, store, main_t, local_t),
-        cycles: ruled.cycles,
-    }
+    let done = lend(t, g, store, main, local, counts);
+    Going { x: x, ..done }
 }
 
-fn runs(
-    store: &mut [u64],
-    main: &mut [u8],
-    local: &mut [u8],
-    main_t: &mut [u8],
-    local_t: &mut [u8],
-) {
+fn runs(store: &mut [u64], main: &mut [u8], local: &mut [u8]) {
     let mut counts = [0u32; 256];
     let mut g = Going {
         x: 23,
@@ -224,7 +193,7 @@ fn runs(
         cycles: 0,
     };
     for k in 0..1000u32 {
-        g = case(g, store, main, local, main_t, local_t, &mut counts);
+        g = case(g, store, main, local, &mut counts);
         if k % 100 == 99 {
             agree::print_digest(k as u64 + 1, g.digest);
         }
@@ -248,11 +217,7 @@ fn main() {
     let mut store = [0u64; 4097];
     let mut main = [0u8; 65537];
     let mut local = [0u8; 257];
-    let mut main_t = [0u8; 65537];
-    let mut local_t = [0u8; 257];
     agree::fill(29, &mut main);
     agree::fill(31, &mut local);
-    agree::fill(29, &mut main_t);
-    agree::fill(31, &mut local_t);
-    runs(&mut store, &mut main, &mut local, &mut main_t, &mut local_t);
+    runs(&mut store, &mut main, &mut local);
 }

@@ -31,7 +31,6 @@ use Rattle.machine.specs.declared.NextSum.{NextSum}
 use Rattle.machine.specs.declared.NextSum.the-variants.{Sums}
 use Rattle.machine.proofs.Cycles.{address-fits}
 use Rattle.machine.proofs.cycle.Reads as cycle
-use Rattle.machine.proofs.cycle_by_table.Reads as cycle-by-table
 use Rattle.machine.proofs.next_sum.Reads as next-sum
 
 -- what runs is answered so, and no other way
@@ -214,16 +213,10 @@ module _ (store main local : List ℕ) (s t : State) (n g : ℕ) where
       let f : Fields = fieldsOf (wordAt store s) in
       decided-small (first (cycleChecks store main local s)) (stops f) f (first-lt 256 (cycleChecks store main local s) (omega arith) tt) e
 
--- ---- no second answer fits, nor a second storage; and the table answers as the rule does
+-- ---- no second answer fits, nor a second storage. The promise names no correction, so the cycle by table is the cycle by rule
 
 pub cycle-sole : (κs : _) (args : _) (r q : Cycled) (x y : _) → cycle.Post κs args r x → cycle.Post κs args q y → outcome r (now (x .1 .0)) (now (x .1 .1 .0)) ≡ outcome q (now (y .1 .0)) (now (y .1 .1 .0))
 cycle-sole κs args r q x y a b = sole a b
-
-pub cycle-by-table-sole : (κs : _) (args : _) (r q : Cycled) (x y : _) → cycle-by-table.Post κs args r x → cycle-by-table.Post κs args q y → outcome r (now (x .1 .0)) (now (x .1 .1 .0)) ≡ outcome q (now (y .1 .0)) (now (y .1 .1 .0))
-cycle-by-table-sole κs args r q x y a b = sole a b
-
-pub table-agrees : (κs : _) (args : _) (r q : Cycled) (x y : _) → cycle.Post κs args r x → cycle-by-table.Post κs args q y → outcome r (now (x .1 .0)) (now (x .1 .1 .0)) ≡ outcome q (now (y .1 .0)) (now (y .1 .1 .0))
-table-agrees κs args r q x y a b = sole a b
 
 pub next-sum-sole : (κs : _) (args : _) (r q : NextSum) (x y : _) → next-sum.Post κs args r x → next-sum.Post κs args q y → r ≡ q
 next-sum-sole κs args r q x y a b = sole a b

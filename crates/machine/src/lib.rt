@@ -94,7 +94,7 @@ fn after(f: Fields, z: Sum, a: Access, fetched: u8, s: State) -> State
 }
 
 // What the fields of a word do: decide everything, then make at most one store.
-fn step(by_table: bool, f: Fields, main: &mut [u8], local: &mut [u8], s: State) -> Cycled
+fn step(f: Fields, main: &mut [u8], local: &mut [u8], s: State) -> Cycled
     requires { ⌜ (f .cn < 64) × ((f .ck < 16) × (length (now local) ≡ 256)) ⌝ }
     ensures { λ r. ⌜ outcome r (now (main .exit)) (now (local .exit)) ≡ stepOf f (now (main .entry)) (now (local .entry)) s ⌝ }
 {
@@ -106,7 +106,7 @@ fn step(by_table: bool, f: Fields, main: &mut [u8], local: &mut [u8], s: State) 
         return Cycled::Refused(s, 10, field);
     }
     let entered = sources::enter(f, s);
-    let z = sources::sum_in(by_table, f, entered);
+    let z = sources::sum_in(f, entered);
     let access = storage::access_of(f, entered);
     if storage::is_outside(main.len(), access) {
         return Cycled::Refused(s, 11, 0);
@@ -116,13 +116,8 @@ fn step(by_table: bool, f: Fields, main: &mut [u8], local: &mut [u8], s: State) 
     Cycled::Ran(after(f, z, access, fetched, entered))
 }
 
-fn cycle_with(
-    by_table: bool,
-    store: &[u64],
-    main: &mut [u8],
-    local: &mut [u8],
-    state: State,
-) -> Cycled
+// One cycle.
+pub fn cycle(store: &[u64], main: &mut [u8], local: &mut [u8], state: State) -> Cycled
     ensures { λ r. ⌜ outcome r (now (main .exit)) (now (local .exit)) ≡ cycleOf (now (store .entry)) (now (main .entry)) (now (local .entry)) state ⌝ }
 {
     if digits::sizes_wrong(store.len(), main.len(), local.len()) {
@@ -134,22 +129,8 @@ fn cycle_with(
     }
     match word::take_apart(store[at], state.wx as u32) {
         Apart::Refused(number) => Cycled::Refused(state, number, 0),
-        Apart::Fields(f) => step(by_table, f, main, local, state),
+        Apart::Fields(f) => step(f, main, local, state),
     }
-}
-
-// One cycle, the sum corrected by the digit rules.
-pub fn cycle(store: &[u64], main: &mut [u8], local: &mut [u8], state: State) -> Cycled
-    ensures { λ r. ⌜ outcome r (now (main .exit)) (now (local .exit)) ≡ cycleOf (now (store .entry)) (now (main .entry)) (now (local .entry)) state ⌝ }
-{
-    cycle_with(false, store, main, local, state)
-}
-
-// One cycle, the sum corrected by the table.
-pub fn cycle_by_table(store: &[u64], main: &mut [u8], local: &mut [u8], state: State) -> Cycled
-    ensures { λ r. ⌜ outcome r (now (main .exit)) (now (local .exit)) ≡ cycleOf (now (store .entry)) (now (main .entry)) (now (local .entry)) state ⌝ }
-{
-    cycle_with(true, store, main, local, state)
 }
 
 // The work of the word that would run next: what is chosen, gated and summed, step by step.

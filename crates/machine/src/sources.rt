@@ -85,18 +85,12 @@ fn controls(f: Fields, s: State) -> Controls
     }
 }
 
-// c. The adder's whole answer, by the rule or by the table.
-pub(crate) fn sum_in(by_table: bool, f: Fields, s: State) -> Sum
+// c. The adder's whole answer.
+pub(crate) fn sum_in(f: Fields, s: State) -> Sum
     requires { ⌜ f .ck < 16 ⌝ }
     ensures { λ r. ⌜ r ≡ sumIn f s ⌝ }
 {
-    let a = a_source(f, s);
-    let b = b_source(f, s);
-    let controls = controls(f, s);
-    if by_table {
-        return adder::add_by_table(a, b, controls);
-    }
-    adder::add(a, b, controls)
+    adder::add(a_source(f, s), b_source(f, s), controls(f, s))
 }
 
 // What the adder does on the way to its answer.

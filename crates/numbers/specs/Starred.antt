@@ -30,7 +30,7 @@ all cv cc s0 = record { cf = 3; cg = 3; cv = cv; cc = cc; s0 = s0; s3 = false }
 abbrev alone : ℕ → Controls
 alone cf = record { cf = cf; cg = 0; cv = 0; cc = 0; s0 = false; s3 = false }
 
--- by the definitions that the contracts of `pack`, `take_apart`, `add` and `add_by_table` cite
+-- by the definitions that the contracts of `pack`, `take_apart` and `add` cite
 abbrev pub Holds : Row → Type 0
 Holds (packs f address word) = packed f address ≡ P.Word word
 Holds (refused word address number) = takenApart word address ≡ A.Refused number

@@ -24,7 +24,6 @@ use Rattle.run.proofs.Runs.{refused-at-once, begins}
 use Rattle.run.proofs.Goes.{Machine, machine, Goes, here, Wrong, Right, goes-right, Ends, runFrom, standing, done}
 use Rattle.run.proofs.refusal.Reads as refusal
 use Rattle.run.proofs.run.Reads as run
-use Rattle.run.proofs.run_by_table.Reads as run-by-table
 
 -- 1 and 22: given by the list, nothing is done; given by none, the cycles begin
 module _ (budget : ℕ) (store main local : List ℕ) (s : State) where
@@ -162,7 +161,7 @@ run-exactly budget store main local s n which = (to (first cs) refl, back)
         by zero z = absurd (not-0 n which z)
         by (suc k) z = z
 
--- ---- no second answer fits, nor a second storage; and the table answers as the rule does
+-- ---- no second answer fits, nor a second storage. The promise names no correction, so the run by table is the run by rule
 
 pub refusal-sole : (κs : _) (args : _) (r q : ℕ) (x y : _) → refusal.Post κs args r x → refusal.Post κs args q y → r ≡ q
 refusal-sole κs args r q x y a b = sole a b
@@ -170,18 +169,8 @@ refusal-sole κs args r q x y a b = sole a b
 pub run-sole : (κs : _) (args : _) (r q : Finished) (x y : _) → run.Post κs args r x → run.Post κs args q y → outcome r (now (x .1 .0)) (now (x .1 .1 .0)) ≡ outcome q (now (y .1 .0)) (now (y .1 .1 .0))
 run-sole κs args r q x y a b = sole a b
 
-pub run-by-table-sole : (κs : _) (args : _) (r q : Finished) (x y : _) → run-by-table.Post κs args r x → run-by-table.Post κs args q y → outcome r (now (x .1 .0)) (now (x .1 .1 .0)) ≡ outcome q (now (y .1 .0)) (now (y .1 .1 .0))
-run-by-table-sole κs args r q x y a b = sole a b
-
-pub table-agrees : (κs : _) (args : _) (r q : Finished) (x y : _) → run.Post κs args r x → run-by-table.Post κs args q y → outcome r (now (x .1 .0)) (now (x .1 .1 .0)) ≡ outcome q (now (y .1 .0)) (now (y .1 .1 .0))
-table-agrees κs args r q x y a b = sole a b
-
--- ---- what the statements of specs/Divided.antt ask of a run is what both contracts promise, as the prover reads them
+-- ---- what the statements of specs/Divided.antt ask of a run is what the contract promises, as the prover reads it
 
 pub run-promises : (κs : _) (args : _) (r : Finished) (x : _) → run.Post κs args r x
     → outcome r (now (x .1 .0)) (now (x .1 .1 .0)) ≡ runOf (args .1 .1 .1 .1 .0) (now (args .0)) (now (args .1 .0)) (now (args .1 .1 .0)) (args .1 .1 .1 .0)
 run-promises κs args r x promised = promised
-
-pub run-by-table-promises : (κs : _) (args : _) (r : Finished) (x : _) → run-by-table.Post κs args r x
-    → outcome r (now (x .1 .0)) (now (x .1 .1 .0)) ≡ runOf (args .1 .1 .1 .1 .0) (now (args .0)) (now (args .1 .0)) (now (args .1 .1 .0)) (args .1 .1 .1 .0)
-run-by-table-promises κs args r x promised = promised

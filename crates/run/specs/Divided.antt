@@ -25,7 +25,7 @@ pub record Divided (b : ℕ) (first second whole : Outcome Finished) : Type 0 wh
   pub again : (first .answer .ending ≡ Spent → ⊥) → (b ≡ 0 → ⊥) → second ≡ ended (first .answer .ending) (first .answer .state) 0 (first .main) (first .local)
 
 -- "over every store and state .. a run of one budget followed by another from where it ended equals a run of their total, when the total is
--- at most 1,000,000". A run is what is promised of `run` and of `run_by_table`, so each of the three may be made by either.
+-- at most 1,000,000". A run is what is promised of `run`, in whichever library.
 abbrev pub BudgetsDivide : Type 0
 BudgetsDivide =
     (a b : ℕ) (store main local : List ℕ) (s : State) (first second whole : Outcome Finished)

@@ -2,7 +2,7 @@
 ghost use mathlib.Core.Path.{_≡_};
 ghost use Rattle.run.specs.Run.{cyclesOf, runChecks, runOf};
 ghost use Rattle.digits.specs.Refusal.{first};
-ghost use Rattle.machine.specs.Cycle.{outcome, cycleOf};
+ghost use Rattle.machine.specs.Cycle.{outcome};
 use machine::Cycled;
 use machine::State;
 
@@ -29,24 +29,7 @@ fn ended(ending: Ending, state: State, count: u32) -> Finished
     }
 }
 
-// One cycle, by the rule or by the table.
-fn one(by_table: bool, store: &[u64], main: &mut [u8], local: &mut [u8], state: State) -> Cycled
-    ensures { λ r. ⌜ outcome r (now (main .exit)) (now (local .exit)) ≡ cycleOf (now (store .entry)) (now (main .entry)) (now (local .entry)) state ⌝ }
-{
-    if by_table {
-        return machine::cycle_by_table(store, main, local, state);
-    }
-    machine::cycle(store, main, local, state)
-}
-
-fn cycles(
-    by_table: bool,
-    store: &[u64],
-    main: &mut [u8],
-    local: &mut [u8],
-    state: State,
-    budget: u32,
-) -> Finished
+fn cycles(store: &[u64], main: &mut [u8], local: &mut [u8], state: State, budget: u32) -> Finished
     ensures { λ r. ⌜ outcome r (now (main .exit)) (now (local .exit)) ≡ cyclesOf budget (now (store .entry)) (now (main .entry)) (now (local .entry)) state 0 ⌝ }
 {
     let mut now = state;
@@ -55,7 +38,7 @@ fn cycles(
         if done == budget {
             break ended(Ending::Spent, now, done);
         }
-        match one(by_table, store, main, local, now) {
+        match machine::cycle(store, main, local, now) {
             Cycled::Ran(next) => {
                 now = next;
                 done = done + 1;
@@ -78,39 +61,13 @@ pub fn refusal(store: usize, main: usize, local: usize, budget: u32) -> u8
     digits::first_of(wrong, 1, digits::first_of(1000000 < budget, 22, 0))
 }
 
-fn run_with(
-    by_table: bool,
-    store: &[u64],
-    main: &mut [u8],
-    local: &mut [u8],
-    state: State,
-    budget: u32,
-) -> Finished
+// A run.
+pub fn run(store: &[u64], main: &mut [u8], local: &mut [u8], state: State, budget: u32) -> Finished
     ensures { λ r. ⌜ outcome r (now (main .exit)) (now (local .exit)) ≡ runOf budget (now (store .entry)) (now (main .entry)) (now (local .entry)) state ⌝ }
 {
     let number = refusal(store.len(), main.len(), local.len(), budget);
     if number != 0 {
         return ended(Ending::Refused(number, 0), state, 0);
     }
-    cycles(by_table, store, main, local, state, budget)
-}
-
-// A run, its sums corrected by the digit rules.
-pub fn run(store: &[u64], main: &mut [u8], local: &mut [u8], state: State, budget: u32) -> Finished
-    ensures { λ r. ⌜ outcome r (now (main .exit)) (now (local .exit)) ≡ runOf budget (now (store .entry)) (now (main .entry)) (now (local .entry)) state ⌝ }
-{
-    run_with(false, store, main, local, state, budget)
-}
-
-// A run, its sums corrected by the table.
-pub fn run_by_table(
-    store: &[u64],
-    main: &mut [u8],
-    local: &mut [u8],
-    state: State,
-    budget: u32,
-) -> Finished
-    ensures { λ r. ⌜ outcome r (now (main .exit)) (now (local .exit)) ≡ runOf budget (now (store .entry)) (now (main .entry)) (now (local .entry)) state ⌝ }
-{
-    run_with(true, store, main, local, state, budget)
+    cycles(store, main, local, state, budget)
 }

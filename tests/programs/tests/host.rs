@@ -1,4 +1,4 @@
-//! Programs in C and C++ that stand on include/panel.h and the library, compiled as a board's maker compiles them: with
+//! Programs in C and C++ that stand on include/panel.h and a board's library, compiled as a board's maker compiles them: with
 //! the kit's tools by examples/panel/build.sh, and plainly with gcc and g++ where they are on the path.
 
 #[path = "../../second/tests/common/mod.rs"]
@@ -117,32 +117,32 @@ fn the_header_compiles_as_cpp() {
     header_compiles("g++", "c++", &["c++98", "c++11", "c++17"]);
 }
 
-/// The library, as it is proved from the present files.
-fn library() -> PathBuf {
-    let library = root().join("target/staticlib/libpanel.a");
-    let mut command = Command::new(root().join("tools/proved"));
-    let said = run(command.arg(&library).args(["rt", "staticlib", "panel"]), &[]);
+/// A board's library, as it is proved from the present files.
+fn library(board: &str) -> PathBuf {
+    let said = run(Command::new(root().join("tools/library")).arg(board), &[]);
     assert_eq!(said.status, Some(0), "{}", said.err);
-    library
+    PathBuf::from(said.text().trim())
 }
 
-/// The source with the header and the library, and nothing else on the command line: what the program then says.
-fn linked(compiler: &str, source: &str, name: &str) -> Option<Said> {
+/// The source with the header and a board's library, and nothing else on the command line: what each program then says.
+fn linked(compiler: &str, source: &str) -> Vec<Said> {
     if std::env::consts::ARCH != "x86_64" || !there(compiler) {
-        return None;
+        return Vec::new();
     }
-    let (include, program) = (root().join("include"), folder(name).join("program"));
-    let parts = [include, library(), program.clone()].map(|path| path.to_string_lossy().into_owned());
-    compiles(compiler, &[source, "-I", &parts[0], &parts[1], "-o", &parts[2]]);
-    Some(run(&mut Command::new(program), &[]))
+    let with = |board: &str| {
+        let program = folder(&format!("{compiler}_{board}")).join("program");
+        let parts = [root().join("include"), library(board), program.clone()];
+        let parts = parts.map(|path| path.to_string_lossy().into_owned());
+        compiles(compiler, &[source, "-I", &parts[0], &parts[1], "-o", &parts[2]]);
+        run(&mut Command::new(program), &[])
+    };
+    ["small", "large"].map(with).into()
 }
 
 #[test]
 fn gcc_links_the_example() {
     let source = root().join("examples/panel/example.c");
-    if let Some(said) = linked("gcc", &source.to_string_lossy(), "gcc") {
-        shows_the_example(&said);
-    }
+    linked("gcc", &source.to_string_lossy()).iter().for_each(shows_the_example);
 }
 
 /// Every function once, from C++, and what each answers. All but the last four refuse.
@@ -174,7 +174,7 @@ int main() {
 #[test]
 fn gpp_links_every_function() {
     let source = file(&folder("gpp_source"), "all.cpp", ALL.as_bytes());
-    if let Some(said) = linked("g++", &source, "gpp") {
+    for said in linked("g++", &source) {
         let text = "19 19 1 19 1 1 15 21 26 27 1 12 0 21 0 55\n";
         assert_eq!((said.text().as_str(), said.status), (text, Some(0)), "{}", said.err);
     }

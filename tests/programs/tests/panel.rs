@@ -1,4 +1,4 @@
-//! The panel as other programs drive it, through include/panel.h and the linked library, beside the second engine's calls:
+//! The panel as other programs drive it, through include/panel.h and each board's library, beside the second engine's calls:
 //! what each call answers, and every byte that it was lent, on good and wrong input and on rooms one short.
 
 #[path = "../../second/tests/common/mod.rs"]
@@ -235,20 +235,25 @@ impl Call {
     }
 }
 
-/// The driver, built once.
-static DRIVER: LazyLock<PathBuf> = LazyLock::new(|| {
-    let program = folder("panel").join("driver");
-    let source = root().join("tests/programs/driver.c");
-    let built = run(Command::new(root().join("tools/host")).arg(source).arg(&program), &[]);
-    assert_eq!(built.status, Some(0), "{}", built.err);
-    program
+/// The driver of each board's library, built once.
+static DRIVERS: LazyLock<[PathBuf; 2]> = LazyLock::new(|| {
+    ["small", "large"].map(|board| {
+        let program = folder(&format!("panel_{board}")).join("driver");
+        let source = root().join("tests/programs/driver.c");
+        let built = run(Command::new(root().join("tools/host")).arg(board).arg(&program).arg(source), &[]);
+        assert_eq!(built.status, Some(0), "{}", built.err);
+        program
+    })
 });
 
-/// Every call is answered as the second engine answers it, and a refusal changes no lent byte. Gives the answers, and the
-/// calls with all that was lent as it is left.
+/// Every call is answered by both boards' libraries as the second engine answers it, and a refusal changes no lent byte. Gives
+/// the answers, and the calls with all that was lent as it is left.
 fn made(calls: &[Call]) -> Vec<(u64, Call)> {
     let asked: Vec<u8> = calls.iter().flat_map(Call::asked).collect();
-    let Said { out, err, status } = run(Command::new(root().join("tools/x86")).arg(&*DRIVER), &asked);
+    let [small, large] =
+        DRIVERS.each_ref().map(|driver| run(Command::new(root().join("tools/x86")).arg(driver), &asked));
+    assert!(small == large, "the two boards' libraries differ");
+    let Said { out, err, status } = small;
     let mut rest = out.as_slice();
     let mut made = Vec::new();
     for (place, call) in calls.iter().enumerate() {

@@ -7,15 +7,11 @@ use Rattle.adder.proofs.add.Tie as tie
 before-correction-requires : tie.Need-before-correction-requires
 before-correction-requires c κs = search needs
 
-result-requires : tie.Need-result-requires
-result-requires c κs = search needs
-
 finished-requires : tie.Need-finished-requires
 finished-requires c κs = search needs
 
 returns : tie.Need-returns
-returns c = c .finished .ensures ∙ c .before .before .before-correction .ensures
+returns c = c .finished .ensures ∙ c .before .before-correction .ensures
 
 pub add-spec : {M : Type 1} → statement M
-add-spec =
-    tie.close (tie.spec before-correction-requires result-requires finished-requires returns)
+add-spec = tie.close (tie.spec before-correction-requires finished-requires returns)

@@ -6,11 +6,11 @@ use Rattle.agree_cycle.proofs.blocks.Statement.{statement}
 use Rattle.agree_cycle.proofs.blocks.Tie as tie
 
 abbrev Inv-loop : tie.InvT-loop
-Inv-loop store₀ main₀ local₀ main-t₀ local-t₀ counts₀ g₀ k₀ store main local main-t local-t counts g k =
-    (k ≤ 24) × (length store ≡ length store₀) × (length main ≡ length main₀) × (length local ≡ length local₀) × (length main-t ≡ length main-t₀) × (length local-t ≡ length local-t₀) × (length counts ≡ length counts₀)
+Inv-loop store₀ main₀ local₀ counts₀ g₀ k₀ store main local counts g k =
+    (k ≤ 24) × (length store ≡ length store₀) × (length main ≡ length main₀) × (length local ≡ length local₀) × (length counts ≡ length counts₀)
 
 abbrev μ-loop : tie.MeasureT-loop
-μ-loop store₀ main₀ local₀ main-t₀ local-t₀ counts₀ g₀ k₀ store main local main-t local-t counts g k = 24 - k
+μ-loop store₀ main₀ local₀ counts₀ g₀ k₀ store main local counts g k = 24 - k
 
 pub blocks-spec : {M : Type 1} → statement M
 blocks-spec =
@@ -30,8 +30,6 @@ blocks-spec =
     (λ c. search needs)
     (λ c. search needs)
     (λ c κs. tt)
-    (λ c. search needs)
-    (λ c. search needs)
     (λ c. search needs)
     (λ c. search needs)
     (λ c. search needs)

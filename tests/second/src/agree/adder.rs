@@ -1,21 +1,22 @@
-//! Both adders: every pair of bytes with either carry, every gate and operation, and document 001's worked sums.
+//! The adder: every pair of bytes with either carry, every gate and operation, and document 001's worked sums; and both
+//! corrections of every sum.
 
 use super::digest_line;
-use crate::adder::{add, add_by_table, Answer, Controls};
+use crate::adder::{add, correct_by_rule, correct_by_table, Answer, Controls};
 use crate::random::{mix, Random};
 
 const DIGEST_EVERY: u64 = 16_384;
 
-/// All that an adder hands back, as one number.
+/// All that the adder hands back, as one number.
 fn value(answer: &Answer) -> u64 {
     let latches = [answer.ac, answer.bc1, answer.z0, answer.low_carry];
     let bits = latches.iter().fold(0, |bits, latch| bits << 1 | u64::from(*latch));
     u64::from(answer.result) << 16 | u64::from(answer.sum) << 8 | bits
 }
 
-/// The digest after a case, which both adders answer.
-fn both(digest: u64, a: u8, b: u8, controls: &Controls) -> u64 {
-    mix(mix(digest, value(&add(a, b, controls))), value(&add_by_table(a, b, controls)))
+/// The digest after a case.
+fn summed(digest: u64, a: u8, b: u8, controls: &Controls) -> u64 {
+    mix(digest, value(&add(a, b, controls)))
 }
 
 /// So many cases under a name, with a digest after every 16,384 of them.
@@ -34,7 +35,7 @@ fn section(name: &str, seed: u64, cases: u64, mut case: impl FnMut(u64, u64) -> 
 fn pairs(name: &str, cv: u8, s0: bool) -> String {
     section(name, 1, 1 << 17, |digest, k| {
         let controls = Controls { cf: 3, cg: 3, cv, cc: 6, s0, s3: k % 2 == 1 };
-        both(digest, (k >> 9) as u8, (k >> 1) as u8, &controls)
+        summed(digest, (k >> 9) as u8, (k >> 1) as u8, &controls)
     })
 }
 
@@ -52,7 +53,7 @@ fn gates() -> String {
             s0: bits(10, 1) == 1,
             s3: bits(11, 1) == 1,
         };
-        both(digest, (x >> 8) as u8, (x >> 16) as u8, &controls)
+        summed(digest, (x >> 8) as u8, (x >> 16) as u8, &controls)
     })
 }
 
@@ -70,8 +71,20 @@ fn beyond() -> String {
             s0: x >> 40 & 1 == 1,
             s3: x >> 41 & 1 == 1,
         };
-        both(digest, byte(48), byte(56), &controls)
+        summed(digest, byte(48), byte(56), &controls)
     })
+}
+
+/// Every sum of nine bits with either carry out of its low digit, corrected by the rule and by the table.
+fn corrections() -> String {
+    let mut digest = 6;
+    for low_carry in [false, true] {
+        for sum in 0..512 {
+            let both = [correct_by_rule(low_carry, sum), correct_by_table(low_carry, sum)];
+            digest = both.iter().fold(digest, |digest, byte| mix(digest, u64::from(*byte)));
+        }
+    }
+    "corrections by rule and by table\n".to_owned() + &digest_line(1024, digest)
 }
 
 /// A sum's name, A and B, with the gate, CV, S0 and S3.
@@ -93,7 +106,7 @@ const WORKED: [Worked; 9] = [
 fn worked() -> String {
     let line = |(name, a, b, (gate, cv, s0, s3)): &Worked| {
         let controls = Controls { cf: *gate, cg: *gate, cv: *cv, cc: 6, s0: *s0, s3: *s3 };
-        format!("{name} {:06x} {:06x}\n", value(&add(*a, *b, &controls)), value(&add_by_table(*a, *b, &controls)))
+        format!("{name} {:06x}\n", value(&add(*a, *b, &controls)))
     };
     WORKED.iter().map(line).collect()
 }
@@ -107,5 +120,5 @@ pub fn text() -> String {
         pairs("CV 3, S0 off", 3, false),
         pairs("CV 3, S0 on", 3, true),
     ];
-    worked() + &by_cv.concat() + &gates() + &beyond()
+    worked() + &by_cv.concat() + &gates() + &beyond() + &corrections()
 }

@@ -1,9 +1,9 @@
-//! Single cycles, and the work that would be done in each: drawn words, states and storage sizes, by rule and by table.
+//! Single cycles, and the work that would be done in each: drawn words, states and storage sizes.
 
 use super::draw::{bits, drawn_state, near, word_for, Lent};
 use super::{digest_line, drawn_bytes, joined, mix_bytes, mix_state};
 use crate::adder::Work;
-use crate::cycle::{cycle, cycle_by_table, next_work, Answer};
+use crate::cycle::{cycle, next_work, Answer};
 use crate::random::{mix, Random};
 use crate::state::{State, M, N};
 use crate::word::LAYOUT;
@@ -42,19 +42,16 @@ fn drawn(random: &mut Random) -> Trial {
 }
 
 /// Main and local storage, more than a case is lent at most.
-#[derive(Clone)]
 struct Storages {
     main: Vec<u8>,
     local: Vec<u8>,
 }
 
-type Engine = fn(&[u64], &mut [u8], &mut [u8], &mut State) -> Answer;
-
-/// The engine's answer, and the digest after it, the state and the bytes that the state before it addresses.
-fn answer(engine: Engine, digest: u64, trial: &Trial, store: &[u64], storages: &mut Storages) -> (Answer, u64) {
+/// The answer, and the digest after it, the state and the bytes that the state before it addresses.
+fn answer(digest: u64, trial: &Trial, store: &[u64], storages: &mut Storages) -> (Answer, u64) {
     let (main, local) = (&mut storages.main[..trial.lent.main], &mut storages.local[..trial.lent.local]);
     let mut state = trial.state;
-    let answer = engine(&store[..trial.lent.words], main, local, &mut state);
+    let answer = cycle(&store[..trial.lent.words], main, local, &mut state);
     let (number, field) = match answer {
         Answer::Ran => (RAN, 0),
         Answer::Stopped => (STOPPED, 0),
@@ -117,8 +114,7 @@ impl Counts {
 
 pub fn text() -> String {
     let mut store = vec![0; 4097];
-    let mut by_rule = Storages { main: drawn_bytes(17, 65537), local: drawn_bytes(19, 257) };
-    let mut by_table = by_rule.clone();
+    let mut storages = Storages { main: drawn_bytes(17, 65537), local: drawn_bytes(19, 257) };
     let (mut random, mut digest) = (Random::new(13), 4);
     let (mut counts, mut text) = (Counts::default(), String::new());
     for block in 1..=24 {
@@ -128,13 +124,11 @@ pub fn text() -> String {
                 *word = trial.word;
             }
             digest = mix_work(digest, next_work(&store[..trial.lent.words], &trial.state));
-            let (ruled, after) = answer(cycle, digest, &trial, &store, &mut by_rule);
-            counts.count(ruled);
-            digest = answer(cycle_by_table, after, &trial, &store, &mut by_table).1;
+            let (answer, after) = answer(digest, &trial, &store, &mut storages);
+            counts.count(answer);
+            digest = after;
         }
-        for storages in [&by_rule, &by_table] {
-            digest = mix_bytes(mix_bytes(digest, &storages.main), &storages.local);
-        }
+        digest = mix_bytes(mix_bytes(digest, &storages.main), &storages.local);
         text += &digest_line(block * 10_000, digest);
     }
     text + &counts.report()
