@@ -1,4 +1,4 @@
--- No second answer fits. Assumes nothing.
+-- No second answer fits. The promises name no correction, so the sum by table is the sum by rule. Assumes nothing.
 use mathlib.Core.Path.{_≡_}
 use Rattle.digits.proofs.Sole.{sole}
 use Rattle.adder.specs.declared.Sum.{Sum}

@@ -16,11 +16,8 @@ use Rattle.table.specs.Table.{index, entryAt, right, Corrections}
 pub entry : (table : List ℕ) → Corrections table → (index : ℕ) → index < 1024 → getD table index 0 ≡ entryAt index
 entry table t index h = eqb→eq (getD table index 0) (entryAt index) (at right table (t .rule) index (omega (arith, t .size)))
 
+-- an index gives back its parts
 module _ (byte : ℕ) (h : byte < 256) where
-  pub index-lt : (low high : Bool) → index low high byte < 1024
-  index-lt low high = omega (arith, one-lt low, one-lt high)
-
-  -- an index gives back its parts
   low-carry : (low high : Bool) → leb 512 (index low high byte) ≡ low
   low-carry true high = le-leb 512 (index true high byte) (omega arith)
   low-carry false high = lt-leb 512 (index false high byte) (omega (arith, one-lt high))

@@ -6,16 +6,10 @@ use Rattle.rule.proofs.Laws.{lowered-lt}
 use Rattle.rule.proofs.corrected.Statement.{statement}
 use Rattle.rule.proofs.corrected.Tie as tie
 
-lowered-requires : tie.Need-lowered-requires
-lowered-requires c κs = search needs
-
 mul-result : tie.Need-mul-result
 mul-result c =
     let a = c .before .args in
     omega (arith, c .lowered .ensures, lowered-lt (a .high) (high (a .byte)) (omega arith))
-
-lowered-requires-2 : tie.Need-lowered-requires-2
-lowered-requires-2 c κs = search needs
 
 add-result : tie.Need-add-result
 add-result c =
@@ -24,8 +18,7 @@ add-result c =
     let l = lowered-lt (a .low) (low (a .byte)) (omega arith) in
     omega (arith, c .before .lowered .ensures, c .lowered2 .ensures)
 
-returns : tie.Need-returns
-returns c = search needs
-
 pub corrected-spec : {M : Type 1} → statement M
-corrected-spec = tie.close (tie.spec lowered-requires mul-result lowered-requires-2 add-result returns)
+corrected-spec =
+    tie.close
+    (tie.spec (λ c κs. search needs) mul-result (λ c κs. search needs) add-result (λ c. search needs))
