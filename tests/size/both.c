@@ -1,5 +1,5 @@
-/* Runs the same decks through both boards' libraries, a cycle at a time: both SMALL.so LARGE.so. After every cycle it compares
- * what was answered, the work that was shown before it, the record and both storages.
+/* Runs the same decks through both boards' libraries, a cycle at a time and then at once: both SMALL.so LARGE.so. After every
+ * call it compares what was answered, the work that was shown before it, the record and both storages.
  */
 #include "../../include/panel.h"
 #include "../bench/drawn.h"
@@ -23,9 +23,11 @@ static struct board {
     __typeof__(panel_start) *start, *start_signed;
     __typeof__(panel_next_sum) *next_sum;
     __typeof__(panel_cycle) *cycle;
+    __typeof__(panel_run) *run;
     uint64_t store[WORDS];
     uint8_t deck[DECK], main[MAIN], local[LOCAL], state[PANEL_STATE], work[PANEL_WORK];
-    uint32_t words, sum, answer;
+    uint32_t words, sum;
+    uint64_t answer;
 } small, large;
 
 static size_t bytes;               /* of main storage that are lent */
@@ -43,8 +45,9 @@ static int load(struct board *b, const char *file) {
     b->start_signed = dlsym(library, "panel_start_signed");
     b->next_sum = dlsym(library, "panel_next_sum");
     b->cycle = dlsym(library, "panel_cycle");
+    b->run = dlsym(library, "panel_run");
     return b->pack && b->write_deck && b->read_deck && b->shipped && b->shipped_signed && b->start && b->start_signed &&
-           b->next_sum && b->cycle;
+           b->next_sum && b->cycle && b->run;
 }
 
 /* The words that stand in the store, as a deck that is written and read. */
@@ -67,20 +70,25 @@ static void cycle(struct board *b) {
     b->answer = b->cycle(b->store, b->words, b->main, bytes, b->local, LOCAL, b->state, PANEL_STATE);
 }
 
+/* What both were lent, and what they answered. */
+static int boards_are_the_same(void) {
+    if (small.sum == large.sum && small.answer == large.answer && !memcmp(small.work, large.work, PANEL_WORK) &&
+        !memcmp(small.state, large.state, PANEL_STATE) && !memcmp(small.main, large.main, bytes) &&
+        !memcmp(small.local, large.local, LOCAL))
+        return 1;
+    printf("cycle %u is not the same: answers %lX and %lX, WX %02X%02X and %02X%02X, sums %02X and %02X\n", cycles,
+           small.answer, large.answer, small.state[PANEL_WX_HIGH], small.state[PANEL_WX_LOW], large.state[PANEL_WX_HIGH],
+           large.state[PANEL_WX_LOW], small.work[PANEL_AFTER], large.work[PANEL_AFTER]);
+    return 0;
+}
+
 /* One cycle on each. */
 static int cycles_are_the_same(void) {
     cycle(&small);
     cycle(&large);
     cycles += small.answer == PANEL_RAN;
     corrected += small.answer == PANEL_RAN && small.work[PANEL_BEFORE] != small.work[PANEL_AFTER];
-    if (small.sum == large.sum && small.answer == large.answer && !memcmp(small.work, large.work, PANEL_WORK) &&
-        !memcmp(small.state, large.state, PANEL_STATE) && !memcmp(small.main, large.main, bytes) &&
-        !memcmp(small.local, large.local, LOCAL))
-        return 1;
-    printf("cycle %u is not the same: answers %X and %X, WX %02X%02X and %02X%02X, sums %02X and %02X\n", cycles, small.answer,
-           large.answer, small.state[PANEL_WX_HIGH], small.state[PANEL_WX_LOW], large.state[PANEL_WX_HIGH],
-           large.state[PANEL_WX_LOW], small.work[PANEL_AFTER], large.work[PANEL_AFTER]);
-    return 0;
+    return boards_are_the_same();
 }
 
 /* Cycles until one does not run, or so many. */
@@ -179,12 +187,26 @@ static int drawn(void) {
     return told("drawn words");
 }
 
+static void run(struct board *b, uint32_t budget) {
+    b->answer = b->run(b->store, b->words, b->main, bytes, b->local, LOCAL, b->state, PANEL_STATE, budget);
+}
+
+/* The longest run, from where the drawn words stand. */
+static int at_once(void) {
+    run(&small, 1000000);
+    run(&large, 1000000);
+    if (!boards_are_the_same()) return 0;
+    printf("%-20s %7u cycles, compared at their end\n", "drawn words at once", (unsigned)(small.answer >> 32));
+    return small.answer % 256 == PANEL_SPENT;
+}
+
 int main(int count, char **arguments) {
     if (count != 3 || !load(&small, arguments[1]) || !load(&large, arguments[2])) {
         printf("both needs the two boards' libraries, with every call that it makes\n");
         return 1;
     }
-    if (!every_sum() || !shipped("the shipped add", 0) || !shipped("AP and SP", 1) || !drawn()) return 1;
+    if (!every_sum() || !shipped("the shipped add", 0) || !shipped("AP and SP", 1) || !drawn() || !at_once())
+        return 1;
     printf("small and large board: every answer, record, work and storage is the same\n");
     return 0;
 }
