@@ -1,5 +1,5 @@
-// Times the proved engine, by rule and by table, and the plain engine on the same store, and prints nanoseconds a cycle: host
-// SMALL.so LARGE.so, the two boards' libraries.
+// Times the proved engine, by rule and by table, and the plain engine on the same two stores, and prints nanoseconds a cycle:
+// host SMALL.so LARGE.so, the two boards' libraries.
 #include "../../include/panel.h"
 #include "drawn.h"
 #include "plain.h"
@@ -26,6 +26,13 @@ static void draw(struct storage *s) {
     x = 7;
     for (int k = 0; k < MAIN; k++) s->main[k] = next() >> 8;
     for (int k = 0; k < LOCAL; k++) s->local[k] = next() >> 8;
+}
+
+// A word whose block of four leads to the next of a tour of all 1,024 blocks; which of a block's words runs, the state says.
+static u64 toured(u64 at) {
+    u64 cn = ((at >> 2 & 63) * 5 + 13) & 63, module = ((at >> 8) + !cn) & 15;
+    u64 cl = cn ? any_cl() : 2, cm = next() % 6, ca = cl == 2 ? module : any_ca(), cu = any_cu(cm, cl);
+    return filled(at, cn, cl, cm, cu, ca, cm < 3 && cu == 2 ? module : next() & 15);
 }
 
 static double now(void) {
@@ -60,6 +67,9 @@ static __typeof__(panel_run) *run_of(const char *file) {
 
 typedef u64 engine(struct storage *);
 
+static engine *const engines[3] = {by_plain, by_rule, by_table};
+static const char *const names[3] = {"plain engine in C, clang -O2", "proved engine by rule", "proved engine by table"};
+
 // One run, in nanoseconds a cycle.
 static double timed(engine *run, struct storage *s, u64 *answer) {
     draw(s);
@@ -68,32 +78,59 @@ static double timed(engine *run, struct storage *s, u64 *answer) {
     return (now() - from) / BUDGET;
 }
 
-int main(int count, char **arguments) {
-    if (count != 3 || !(small = run_of(arguments[1])) || !(large = run_of(arguments[2]))) {
-        printf("host needs the two boards' libraries\n");
-        return 1;
+// Says how many of the words run, and how many cycles the two take that run most.
+static void told(const char *name, struct storage *s) {
+    struct plain state = {0};
+    static unsigned times[WORDS];
+    unsigned words = 0, most = 0, second = 0;
+    for (int at = 0; at < WORDS; at++) times[at] = 0;
+    draw(s);
+    for (int k = 0; k < BUDGET; k++) {
+        times[state.wx]++;
+        plain_run(store, WORDS, s->main, MAIN, s->local, &state, 1);
     }
+    for (int at = 0; at < WORDS; at++) {
+        words += times[at] > 0;
+        if (times[at] > second) second = times[at];
+        if (second > most) second = most, most = times[at];
+    }
+    printf("%s: %u of 4,096 words run; the two that run most take %u of 1,000,000 cycles\n", name, words, most + second);
+}
+
+static int same(const u64 *answer, const struct storage *s) {
+    if ((uint32_t)answer[0] == BUDGET && answer[1] == answer[0] && answer[2] == answer[0] && !memcmp(&s[0], &s[1], sizeof s[0]) &&
+        !memcmp(&s[0], &s[2], sizeof s[0]))
+        return 1;
+    printf("the engines differ: %lx %lx %lx\n", answer[0], answer[1], answer[2]);
+    return 0;
+}
+
+// The three engines in turn, so that what else the machine does falls on all three.
+static int compared(const char *name, u64 (*drawn)(u64)) {
     static struct storage s[3];
-    static engine *const engines[3] = {by_plain, by_rule, by_table};
     u64 answer[3];
     double best[3] = {1e9, 1e9, 1e9};
-    for (u64 at = 0; at < WORDS; at++) store[at] = word(at);
-    // In turn, so that what else the machine does falls on all three.
+    x = 1;
+    for (u64 at = 0; at < WORDS; at++) store[at] = drawn(at);
+    told(name, &s[0]);
     for (int k = 0; k < TURNS; k++) {
         for (int e = 0; e < 3; e++) {
             double took = timed(engines[e], &s[e], &answer[e]);
             if (took < best[e]) best[e] = took;
         }
     }
-    double plain = best[0], rule = best[1], table = best[2];
-    if ((uint32_t)answer[0] != BUDGET || answer[1] != answer[0] || answer[2] != answer[0] ||
-        memcmp(&s[0], &s[1], sizeof s[0]) || memcmp(&s[0], &s[2], sizeof s[0])) {
-        printf("the engines differ: %lx %lx %lx\n", answer[0], answer[1], answer[2]);
+    if (!same(answer, s)) return 0;
+    for (int e = 0; e < 3; e++)
+        printf("  %-30s %7.1f ns a cycle, %5.2f times the plain engine, %6.4f of 750 ns\n", names[e], best[e], best[e] / best[0],
+               best[e] / 750);
+    return 1;
+}
+
+int main(int count, char **arguments) {
+    if (count != 3 || !(small = run_of(arguments[1])) || !(large = run_of(arguments[2]))) {
+        printf("host needs the two boards' libraries\n");
         return 1;
     }
-    printf("1,000,000 cycles, the best of %d runs    ns a cycle   to the plain engine   to the real machine's 750 ns\n", TURNS);
-    printf("plain engine in C, clang -O2             %10.1f   %19.2f   %28.4f\n", plain, 1.0, plain / 750);
-    printf("proved engine by rule                    %10.1f   %19.2f   %28.4f\n", rule, rule / plain, rule / 750);
-    printf("proved engine by table                   %10.1f   %19.2f   %28.4f\n", table, table / plain, table / 750);
-    return 0;
+    printf("The best of %d runs of 1,000,000 cycles.\n", TURNS);
+    return compared("the loop", word) && compared("the tour", toured) ? 0 : 1;
 }

@@ -173,18 +173,6 @@ fn operated(cc: u8, decimal: bool, a: u8, b: u8, carry: bool) -> Uncorrected
     }
 }
 
-fn before_correction(a: u8, b: u8, c: Controls) -> Uncorrected
-    ensures { λ r. ⌜ finished r ≡ sumOf a b c ⌝ }
-{
-    operated(
-        c.cc,
-        is_decimal(c.cv, c.cc),
-        gated_a(c.cf, a),
-        entering_b(b, c),
-        carry_in(c.cc, c.s3),
-    )
-}
-
 fn result(u: Uncorrected) -> u8
     ensures { λ r. ⌜ r ≡ resultOf u ⌝ }
 {
@@ -213,22 +201,32 @@ fn finished(u: Uncorrected) -> Sum
 pub fn add(a: u8, b: u8, c: Controls) -> Sum
     ensures { λ r. ⌜ r ≡ sumOf a b c ⌝ }
 {
-    finished(before_correction(a, b, c))
+    finished(operated(
+        c.cc,
+        is_decimal(c.cv, c.cc),
+        gated_a(c.cf, a),
+        entering_b(b, c),
+        carry_in(c.cc, c.s3),
+    ))
 }
 
 // What the unit does with the bytes that CA and CB chose, step by step.
 pub fn work_of(a: u8, b: u8, c: Controls) -> Work
     ensures { λ r. ⌜ r ≡ workOf a b c ⌝ }
 {
-    let z = add(a, b, c);
+    let a_gated = gated_a(c.cf, a);
+    let b_entering = entering_b(b, c);
+    let carry = carry_in(c.cc, c.s3);
+    let sum = operated(c.cc, is_decimal(c.cv, c.cc), a_gated, b_entering, carry);
+    let corrected = correction::corrected(sum.digit_carry, sum.ac, sum.byte);
     Work {
         a_chosen: a,
-        a_gated: gated_a(c.cf, a),
+        a_gated: a_gated,
         b_chosen: b,
         b_gated: gated_b(c.cg, b),
-        b_entering: entering_b(b, c),
-        carry_in: carry_in(c.cc, c.s3),
-        before: z.uncorrected,
-        after: z.result,
+        b_entering: b_entering,
+        carry_in: carry,
+        before: sum.byte,
+        after: digits::first_of(sum.decimal, corrected, sum.byte),
     }
 }

@@ -1,6 +1,6 @@
 -- One cycle, by what its checks find. Assumes nothing.
 use Prim.Native.Nat.{ℕ, zero, suc, _+_, _<_, _≤_}
-use mathlib.Core.Path.{_≡_, refl, sym, ap, subst, _∙_}
+use mathlib.Core.Path.{_≡_, refl, sym, ap, _∙_}
 use mathlib.Core.List.{List, _++_}
 use mathlib.Core.Bool.{true, false}
 use native.Mathlib.Omega.{arith}
@@ -15,7 +15,7 @@ use Rattle.word.specs.Word.{faultChecks, faultOf, takenApart}
 use Rattle.word.specs.declared.Fields.{Fields}
 use Rattle.word.specs.declared.Apart.the-variants as A
 use Rattle.adder.specs.declared.Sum.{Sum}
-use Rattle.word.proofs.Trips.{apart-fields, apart-refused}
+use Rattle.word.proofs.Trips.{apart-fields}
 use Rattle.machine.specs.Sources.{entered, sumIn}
 use Rattle.machine.specs.Storage.{accessOf, outside, fetchedOf, mainAfter, localAfter}
 use Rattle.machine.specs.declared.Access.{Access}
@@ -51,8 +51,8 @@ ran-is f main local main′ local′ s e t a z b pe pa pz pb pt pm pl = rw (pt, 
 -- ---- the whole cycle
 
 -- the fields of a word are in their widths
-pub fields-small : (w a : ℕ) (f : Fields) → takenApart w a ≡ A.Fields f → (f .cn < 64) × (f .ck < 16)
-fields-small w a f e = subst (λ (g : Fields). (g .cn < 64) × (g .ck < 16)) (apart-fields w a f e .1) (omega arith)
+pub fields-small : (w : ℕ) (f : Fields) → f ≡ fieldsOf w → (f .cn < 64) × (f .ck < 16)
+fields-small w f e = rw e (omega arith)
 
 -- a store of the right size has addresses of 12 bits
 pub address-fits : (store main local wx : ℕ) → sizesWrong store main local ≡ false → leb store wx ≡ false → wx ≤ 4095
@@ -95,14 +95,8 @@ module _ (store main local : List ℕ) (s : State) where
           let faults : List Check = faultChecks (wordAt store s) (s .wx) (lineOf (wordAt store s)) in
           ap (λ (n : ℕ). decided n (stops f) f main local s) {y = first (stepChecks f (length main) s)} (late ∙ first-append faults (stepChecks f (length main) s) tt ∙ rw e)
 
--- by what taking the word apart answers
-module _ (store main local : List ℕ) (s : State) (sizes : sizesWrong (length store) (length main) (length local) ≡ false) (inside : leb (length store) (s .wx) ≡ false) where
-  pub on-refused : (n : ℕ) → takenApart (wordAt store s) (s .wx) ≡ A.Refused n → outcome (Refused s n 0) main local ≡ cycleOf store main local s
-  on-refused n e =
-      let (same, some) = apart-refused (wordAt store s) (s .wx) n (address-fits (length store) (length main) (length local) (s .wx) sizes inside) e in
-      ap (λ (k : ℕ). outcome (Refused s k 0) main local) (sym same) ∙ sym (on-fault store main local s sizes inside some)
-
-  pub on-apart : (f : Fields) → takenApart (wordAt store s) (s .wx) ≡ A.Fields f → stepOf f main local s ≡ cycleOf store main local s
-  on-apart f e =
-      let (none, same) = apart-fields (wordAt store s) (s .wx) f e in
-      ap (λ (g : Fields). stepOf g main local s) (sym same) ∙ sym (on-fields store main local s sizes inside none)
+      -- by what taking the word apart gives
+      pub on-apart : (f : Fields) → takenApart (wordAt store s) (s .wx) ≡ A.Fields f → stepOf f main local s ≡ cycleOf store main local s
+      on-apart f e =
+          let (none, same) = apart-fields (wordAt store s) (s .wx) f e in
+          ap (λ (g : Fields). stepOf g main local s) (sym same) ∙ sym (on-fields none)

@@ -98,22 +98,21 @@ fn step(f: Fields, main: &mut [u8], local: &mut [u8], s: State) -> Cycled
     requires { ⌜ (f .cn < 64) × ((f .ck < 16) × (length (now local) ≡ 256)) ⌝ }
     ensures { λ r. ⌜ outcome r (now (main .exit)) (now (local .exit)) ≡ stepOf f (now (main .entry)) (now (local .entry)) s ⌝ }
 {
-    if f.cf == 4 {
-        return Cycled::Stopped(s);
-    }
     let field = modelled::unmodelled(f);
-    if field != 0 {
-        return Cycled::Refused(s, 10, field);
-    }
     let entered = sources::enter(f, s);
-    let z = sources::sum_in(f, entered);
     let access = storage::access_of(f, entered);
-    if storage::is_outside(main.len(), access) {
-        return Cycled::Refused(s, 11, 0);
+    if f.cf == 4 {
+        Cycled::Stopped(s)
+    } else if field != 0 {
+        Cycled::Refused(s, 10, field)
+    } else if storage::is_outside(main.len(), access) {
+        Cycled::Refused(s, 11, 0)
+    } else {
+        let z = sources::sum_in(f, entered);
+        let fetched = storage::fetched(main, local, access);
+        storage::put(main, local, access, entered.r);
+        Cycled::Ran(after(f, z, access, fetched, entered))
     }
-    let fetched = storage::fetched(main, local, access);
-    storage::put(main, local, access, entered.r);
-    Cycled::Ran(after(f, z, access, fetched, entered))
 }
 
 // One cycle.
@@ -127,10 +126,12 @@ pub fn cycle(store: &[u64], main: &mut [u8], local: &mut [u8], state: State) -> 
     if store.len() <= at {
         return Cycled::Refused(state, 2, 0);
     }
-    match word::take_apart(store[at], state.wx as u32) {
-        Apart::Refused(number) => Cycled::Refused(state, number, 0),
-        Apart::Fields(f) => step(f, main, local, state),
+    let word = store[at];
+    let number = word::fault(word, state.wx as u32);
+    if number != 0 {
+        return Cycled::Refused(state, number, 0);
     }
+    step(word::fields_of(word), main, local, state)
 }
 
 // The work of the word that would run next: what is chosen, gated and summed, step by step.

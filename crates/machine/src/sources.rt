@@ -61,13 +61,11 @@ fn b_source(f: Fields, s: State) -> u8
     requires { ⌜ f .ck < 16 ⌝ }
     ensures { λ r. ⌜ r ≡ bSource f s ⌝ }
 {
-    let cb = f.cb;
-    match cb {
-        0 => s.r,
-        1 => s.l,
-        2 => s.d,
-        3 => f.ck * 16 + f.ck,
-        _ => 0,
+    let k_twice = f.ck * 16 + f.ck;
+    if f.cb < 4 {
+        [s.r, s.l, s.d, k_twice][f.cb as usize]
+    } else {
+        0
     }
 }
 

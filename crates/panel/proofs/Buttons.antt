@@ -28,7 +28,7 @@ use Rattle.run.proofs.Divided.{divided, once, one-cycle}
 use Rattle.run.proofs.Quiet.{quiet-keeps}
 use Rattle.channels.specs.Channels.{saved, loaded}
 use Rattle.channels.proofs.Trips.{state-back}
-use Rattle.panel.specs.Answers.{RAN, REFUSED, coded, counted, Called, called, short, cycled, cycledBy, cycleCall, endingCode, recordAfter, ranBy, runCall}
+use Rattle.panel.specs.Answers.{RAN, REFUSED, SPENT, coded, counted, Called, called, short, cycled, cycledBy, cycleCall, endingCode, recordAfter, ranBy, runCall}
 use Rattle.panel.proofs.Calls.{run-short, run-else, by-record}
 use Rattle.panel.proofs.Promises.{Untouched, run-keeps}
 use Rattle.panel.specs.Buttons.{codeIn, cyclesIn, DividedCalls, CallsDivide, pressCycle, pressRun, presses, ranIn, asEnding, Shows, SameMachine, CallsQuiet}
@@ -180,6 +180,10 @@ calls-divide a b store c most =
 abbrev shown : Called → Called
 shown c = called (counted (asEnding (c .number)) (one (eqb (c .number) RAN) + 0)) (c .main) (c .local) (c .state)
 
+-- and the other way: what panel_cycle makes of the number of that run
+abbrev pub asPress : ℕ → ℕ
+asPress code = cond (eqb code SPENT) RAN code
+
 as-run : (store : List ℕ) (r : Cycled) (main local state : List ℕ) → ranBy (once store (outcome r main local)) state ≡ shown (cycled r main local state)
 as-run store (C.Ran t) main local state = ap (λ (o : Outcome Finished). ranBy o state) (spent store main local t 1)
 as-run store (C.Stopped t) main local state = refl
@@ -214,6 +218,31 @@ module _ (store main local state : List ℕ) where
       by : (z : Bool) → asEnding (cond z (short main local state) (cycledBy o state) .number) < 2 ^ 32
       by true = omega arith
       by false = answer-small (o .answer) refl (o .main) (o .local)
+
+  answer-back : (r : Cycled) (m l : List ℕ) → asPress (asEnding (cycled r m l state .number)) ≡ cycled r m l state .number
+  answer-back (C.Ran t) m l = refl
+  answer-back (C.Stopped t) m l = refl
+  answer-back (C.Refused t number field) m l =
+      rw (ne-eqb (coded REFUSED number field) RAN (λ z. omega arith), ne-eqb (coded REFUSED number field) SPENT (λ z. omega arith))
+
+  press-back : asPress (asEnding (cycleCall store main local state .number)) ≡ cycleCall store main local state .number
+  unfolding cycleCall
+  press-back = by (ltb (length state) 22)
+    where
+      o : Outcome Cycled
+      o = cycleOf store main local (loaded state)
+
+      by : (z : Bool) → let c : Called = cond z (short main local state) (cycledBy o state) in asPress (asEnding (c .number)) ≡ c .number
+      by true = refl
+      by false = answer-back (o .answer) (o .main) (o .local)
+
+  pub pressed : (number : ℕ) (m l out : List ℕ) → called number m l out ≡ runCall store main local state 1
+      → called (asPress (codeIn number)) m l out ≡ cycleCall store main local state
+  pressed number m l out e =
+      let c : Called = cycleCall store main local state in
+      let all : called number m l out ≡ shown c = e ∙ press-is-run store main local state in
+      let code = ap (λ (z : Called). asPress (codeIn (z .number))) all ∙ ap asPress (code-in (asEnding (c .number)) _ press-small) ∙ press-back in
+      λ i. called (code i) (all i .main) (all i .local) (all i .state)
 
 -- n cycles by the first, and then what is known of the second
 then-second : (b : ℕ) (first whole : Called) (code n ending ran : ℕ) (main local state : List ℕ) → (b ≡ 0 → ⊥) → first .number ≡ counted code n → code < 2 ^ 32

@@ -15,9 +15,8 @@ use Rattle.word.specs.Word.{takenApart, packed}
 use Rattle.word.specs.declared.Fields.{Fields}
 use Rattle.word.specs.declared.Apart.{Apart}
 use Rattle.word.specs.declared.Packed.{Packed}
-use Rattle.machine.specs.Cycle.{Outcome, outcome, cycleOf, nextSumOf}
+use Rattle.machine.specs.Cycle.{Outcome, outcome, nextSumOf}
 use Rattle.machine.specs.declared.State.{State}
-use Rattle.machine.specs.declared.Cycled.{Cycled}
 use Rattle.machine.specs.declared.NextSum.{NextSum}
 use Rattle.run.specs.Run.{runOf}
 use Rattle.run.specs.declared.Finished.{Finished}
@@ -28,7 +27,7 @@ use Rattle.signed.specs.declared.ReadOut.the-variants as R
 use Rattle.signed.proofs.Trips.{read-whole}
 use Rattle.channels.specs.Channels.{loaded}
 use Rattle.panel.specs.Fields.{fieldsIn}
-use Rattle.panel.specs.Answers.{REFUSED, coded, counted, answered, answerApart, takeApartCall, answerPacked, packCall, Called, called, short, cycled, cycledBy, cycleCall, endingCode, recordAfter, ranBy, runCall, answerNext, nextSumCall, addedCode, addedBy, readSignedCall}
+use Rattle.panel.specs.Answers.{REFUSED, coded, counted, answered, answerApart, takeApartCall, answerPacked, packCall, Called, called, short, endingCode, recordAfter, ranBy, runCall, answerNext, nextSumCall, addedCode, addedBy, readSignedCall}
 
 -- ---- a word
 
@@ -60,24 +59,6 @@ both-lent m n k l h = let (a, b) = neither (ltb m k) (ltb n l) h in (ltb-false m
 pub front : {A : Type 0} (l : List A) (w : A) → 1 ≤ length l → set l 0 w ≡ over (w ∷ []) l
 front [] w h = absurd (omega arith)
 front (x ∷ l) w h = refl
-
--- ---- a cycle
-
-pub told : {r q : ℕ} {m l out state : List ℕ} → r ≡ q → out ≡ state → called r m l out ≡ called q m l state
-told {r} {q} {m} {l} {out} {state} e p = λ i. called (e i) m l (p i)
-
-module _ (store main local state : List ℕ) where
-  pub cycle-short : (r : ℕ) → length state < 22 → r ≡ coded REFUSED 19 0 → called r main local state ≡ cycleCall store main local state
-  unfolding cycleCall
-  cycle-short r h e = rw (lt-ltb (length state) 22 h, e)
-
-  pub cycle-is : 22 ≤ length state → (m l : List ℕ) (s : State) (a x : Cycled) → s ≡ loaded state → outcome a m l ≡ cycleOf store main local s → a ≡ x
-      → cycled x m l state ≡ cycleCall store main local state
-  unfolding cycleCall
-  cycle-is h m l s a x in-state o e =
-      ap (λ (y : Cycled). cycled y m l state) (sym e)
-      ∙ ap (λ (y : Outcome Cycled). cycledBy y state) (o ∙ ap (cycleOf store main local) in-state)
-      ∙ rw (le-ltb (length state) 22 h)
 
 -- ---- a run
 

@@ -14,6 +14,7 @@ use Rattle.word.specs.declared.Apart.the-variants as A
 use Rattle.word.specs.declared.Packed.{Packed}
 use Rattle.word.specs.declared.Packed.the-variants as P
 use Rattle.word.proofs.Trips.{apart-tells, packed-tells}
+use Rattle.word.proofs.fields_of.Reads as fields-of
 use Rattle.word.proofs.fault.Reads as fault
 use Rattle.word.proofs.take_apart.Reads as take-apart
 use Rattle.word.proofs.pack.Reads as pack
@@ -34,6 +35,9 @@ unfolding packed
 pack-exactly f a = exactly packed-tells (join widths (lineWith f a)) (packChecks f a) tt
 
 -- ---- no second answer fits: two results that meet one contract at the same arguments are the same
+
+pub fields-sole : (κs : _) (args : _) (r s : Fields) (x y : _) → fields-of.Post κs args r x → fields-of.Post κs args s y → r ≡ s
+fields-sole κs args r s x y p q = sole p q
 
 pub fault-sole : (κs : _) (args : _) (r s : ℕ) (x y : _) → fault.Post κs args r x → fault.Post κs args s y → r ≡ s
 fault-sole κs args r s x y p q = sole p q

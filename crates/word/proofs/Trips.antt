@@ -1,15 +1,15 @@
 -- "Taken apart and packed again, a word is the same word, and fields the same fields." Assumes nothing.
-use Prim.Native.Nat.{ℕ, _^_, _<_, _≤_}
+use Prim.Native.Nat.{ℕ, _^_, _<_}
 use mathlib.Core.Path.{_≡_, sym, ap, subst, _∙_}
 use mathlib.Core.List.{List}
 use mathlib.Core.Bool.{true, not}
 use native.Mathlib.Omega.{arith}
 use native.Mathlib.Nat.{mod-eq-of-lt}
-use borrow.Author.Tests.{le-ltb, lt-leb, leb-false, not-false}
+use borrow.Author.Tests.{lt-leb, leb-false, not-false}
 use Rattle.digits.specs.Line.{parts, join}
-use Rattle.digits.specs.Refusal.{first, answer}
+use Rattle.digits.specs.Refusal.{answer}
 use Rattle.digits.proofs.Lines.{Fit, join-parts, parts-join, join-lt, fit-true, true-fit, parts-fit}
-use Rattle.digits.proofs.Refusals.{None, none-first, Tells, given-none, given-number}
+use Rattle.digits.proofs.Refusals.{None, none-first, Tells, given-none}
 use Rattle.digits.proofs.Truth.{zero-one, neither}
 use Rattle.word.specs.Layout.{widths, lineOf, field, fieldsOf, line, PN, PA, PS, PC}
 use Rattle.word.specs.Parity.{oddBit, values, pnCovers, paCovers, psCovers, pcCovers}
@@ -58,11 +58,6 @@ unfolding faultOf
 apart-fields w a f e =
     let (checks, same) = good w a f e in
     (none-first (faultChecks w a (lineOf w)) (checks .1), same)
-
--- a word that is refused at an address of 12 bits is refused by 3 to 9
-pub apart-refused : (w a n : ℕ) → a ≤ 4095 → takenApart w a ≡ A.Refused n → (faultOf w a ≡ n) × (faultOf w a ≡ 0 → ⊥)
-unfolding takenApart faultOf
-apart-refused w a n h e = given-number apart-tells (fieldsOf w) (first (faultChecks w a (lineOf w))) n (rw (le-ltb 4095 a h) at e)
 
 sound : (f : Fields) (a w : ℕ) → packed f a ≡ P.Word w → None (packChecks f a) × (join widths (lineWith f a) ≡ w)
 unfolding packed

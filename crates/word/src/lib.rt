@@ -56,7 +56,8 @@ const PK_OF_CA: u64 = 0x3_E020_0000;
 
 const PK_OF_CK: u64 = 0x7A0_0000;
 
-fn fields_of(word: u64) -> Fields
+// The 18 fields of any word, refused or not.
+pub fn fields_of(word: u64) -> Fields
     ensures { λ r. ⌜ r ≡ fieldsOf word ⌝ }
 {
     Fields {

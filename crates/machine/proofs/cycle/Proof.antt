@@ -1,8 +1,12 @@
 -- 1, 2, 3 to 9, and then the fields. Assumes nothing.
+use Prim.Native.Nat.{ℕ}
 use lib.ListN.{length}
-use mathlib.Core.Path.{sym, _∙_}
+use mathlib.Core.Path.{sym, ap, _∙_}
 use borrow.Author.Tests.{le-leb, lt-leb}
-use Rattle.machine.proofs.Cycles.{on-1, on-2, on-refused, on-apart, fields-small, local-fits}
+use Rattle.word.specs.declared.Fields.{Fields}
+use Rattle.machine.specs.Cycle.{outcome, stepOf}
+use Rattle.machine.specs.declared.Cycled.the-variants.{Refused}
+use Rattle.machine.proofs.Cycles.{on-1, on-2, on-fault, on-fields, fields-small, local-fits}
 use denote.Ref.{now}
 use borrow.Author.Needs.{needs}
 use Rattle.machine.proofs.cycle.Statement.{statement}
@@ -18,24 +22,30 @@ returns-2 c =
     let a = c .before .before .before .before .before .before .before .args in
     sym (on-2 (now (a .store)) (now (a .main)) (now (a .local)) (a .state) (sym (c .before .before .before .sizes-wrong .ensures) ∙ c .before .before .if1 .left) (le-leb _ _ (c .if2 .taken)))
 
-step-requires : tie.Need-step-requires
-step-requires c κs =
-    let a = c .before .before .before .before .before .before .before .before .before .before .before .before .before .before .before .args in
-    let small = fields-small _ _ _ (sym (c .before .before .before .before .before .take-apart .ensures) ∙ c .before .before .before .f .given .1) in
-    (small .0, (small .1, local-fits (length (now (a .store))) (length (now (a .main))) _ (sym (c .before .before .before .before .before .before .before .before .before .before .before .sizes-wrong .ensures) ∙ c .before .before .before .before .before .before .before .before .before .before .if1 .left)))
-
 returns-3 : tie.Need-returns-3
 returns-3 c =
-    let a = c .before .before .before .before .before .before .before .before .before .before .before .before .before .args in
-    on-refused (now (a .store)) (now (a .main)) (now (a .local)) (a .state) (sym (c .before .before .before .before .before .before .before .before .before .sizes-wrong .ensures) ∙ c .before .before .before .before .before .before .before .before .if1 .left) (lt-leb _ _ (c .before .before .before .before .before .before .if2 .left)) _
-    (sym (c .before .before .before .take-apart .ensures) ∙ c .before .number .given .1)
+    let a = c .before .before .before .before .before .before .before .before .before .before .before .args in
+    let is = c .before .fault .ensures in
+    let sizes = sym (c .before .before .before .before .before .before .before .sizes-wrong .ensures) ∙ c .before .before .before .before .before .before .if1 .left in
+    let inside = lt-leb _ _ (c .before .before .before .before .if2 .left) in
+    ap (λ (n : ℕ). outcome (Refused (a .state) n 0) (now (a .main)) (now (a .local))) is
+    ∙ sym (on-fault (now (a .store)) (now (a .main)) (now (a .local)) (a .state) sizes inside (λ z. c .if3 .taken (is ∙ z)))
+
+step-requires : tie.Need-step-requires
+step-requires c κs =
+    let a = c .before .before .before .before .before .before .before .before .before .before .before .before .before .before .args in
+    let small = fields-small _ _ (c .before .before .fields-of .ensures) in
+    let sizes = sym (c .before .before .before .before .before .before .before .before .before .before .sizes-wrong .ensures) ∙ c .before .before .before .before .before .before .before .before .before .if1 .left in
+    (small .0, (small .1, local-fits (length (now (a .store))) (length (now (a .main))) _ sizes))
 
 returns-4 : tie.Need-returns-4
 returns-4 c =
-    let a = c .before .before .before .before .before .before .before .before .before .before .before .before .before .before .before .before .before .before .before .before .args in
+    let a = c .before .before .before .before .before .before .before .before .before .before .before .before .before .before .before .before .before .before .before .args in
+    let sizes = sym (c .before .before .before .before .before .before .before .before .before .before .before .before .before .before .before .sizes-wrong .ensures) ∙ c .before .before .before .before .before .before .before .before .before .before .before .before .before .before .if1 .left in
+    let inside = lt-leb _ _ (c .before .before .before .before .before .before .before .before .before .before .before .before .if2 .left) in
     c .before .before .before .before .step .ensures
-    ∙ on-apart (now (a .store)) (now (a .main)) (now (a .local)) (a .state) (sym (c .before .before .before .before .before .before .before .before .before .before .before .before .before .before .before .before .sizes-wrong .ensures) ∙ c .before .before .before .before .before .before .before .before .before .before .before .before .before .before .before .if1 .left) (lt-leb _ _ (c .before .before .before .before .before .before .before .before .before .before .before .before .before .if2 .left)) _
-    (sym (c .before .before .before .before .before .before .before .before .before .before .take-apart .ensures) ∙ c .before .before .before .before .before .before .before .before .f .given .1)
+    ∙ ap (λ (f : Fields). stepOf f (now (a .main)) (now (a .local)) (a .state)) (c .before .before .before .before .before .before .before .fields-of .ensures)
+    ∙ sym (on-fields (now (a .store)) (now (a .main)) (now (a .local)) (a .state) sizes inside (sym (c .before .before .before .before .before .before .before .before .before .fault .ensures) ∙ c .before .before .before .before .before .before .before .before .if3 .left))
 
 pub cycle-spec : {M : Type 1} → statement M
 cycle-spec =
@@ -49,10 +59,9 @@ cycle-spec =
     (λ c. search needs)
     (λ c. search needs)
     (λ c κs. tt)
-    (λ c. search needs)
-    (λ c. search needs)
-    step-requires
     returns-3
+    (λ c κs. tt)
+    step-requires
     (λ c. search needs)
     (λ c. search needs)
     returns-4)

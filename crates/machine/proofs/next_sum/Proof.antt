@@ -1,6 +1,7 @@
 -- Nothing outside the store or for a refused word, else what the fields give. Assumes nothing.
 use borrow.Author.Tests.{le-leb, lt-leb}
 use mathlib.Core.Path.{sym, _∙_}
+use Rattle.word.proofs.Trips.{apart-fields}
 use Rattle.machine.specs.Cycle.{nextSumOf}
 use Rattle.machine.proofs.Cycles.{fields-small}
 use borrow.Author.Needs.{needs}
@@ -12,7 +13,7 @@ unfolding nextSumOf
 returns c = rw (le-leb _ _ (c .if1 .taken))
 
 sum-of-requires : tie.Need-sum-of-requires
-sum-of-requires c κs = fields-small _ _ _ (sym (c .before .before .before .take-apart .ensures) ∙ c .before .f .given .1) .1
+sum-of-requires c κs = fields-small _ _ (sym (apart-fields _ _ _ (sym (c .before .before .before .take-apart .ensures) ∙ c .before .f .given .1) .1)) .1
 
 returns-2 : tie.Need-returns-2
 unfolding nextSumOf
