@@ -94,7 +94,7 @@ static void told(const char *name, struct storage *s) {
         if (times[at] > second) second = times[at];
         if (second > most) second = most, most = times[at];
     }
-    printf("%s: %u of 4,096 words run; the two that run most take %u of 1,000,000 cycles\n", name, words, most + second);
+    printf("%s: %u of %d words run; the two that run most take %u of %d cycles\n", name, words, WORDS, most + second, BUDGET);
 }
 
 static int same(const u64 *answer, const struct storage *s) {
@@ -131,6 +131,6 @@ int main(int count, char **arguments) {
         printf("host needs the two boards' libraries\n");
         return 1;
     }
-    printf("The best of %d runs of 1,000,000 cycles.\n", TURNS);
+    printf("The best of %d runs of %d cycles.\n", TURNS, BUDGET);
     return compared("the loop", word) && compared("the tour", toured) ? 0 : 1;
 }
