@@ -97,6 +97,23 @@ fn save(s: State, state: &mut [u8])
     digits::copy(&shown[0..22], state);
 }
 
+// One cycle, as a run of one: the record is written by a cycle that ran, and by nothing else.
+#[no_mangle]
+pub extern "C" fn panel_cycle(
+    store: &[u64],
+    main: &mut [u8],
+    local: &mut [u8],
+    state: &mut [u8],
+) -> u32
+    ensures { λ r. ⌜ called r (now (main .exit)) (now (local .exit)) (now (state .exit)) ≡ cycleCall (now (store .entry)) (now (main .entry)) (now (local .entry)) (now (state .entry)) ⌝ }
+{
+    let code = (panel_run(store, main, local, state, 1) % 0x1_0000_0000) as u32;
+    if code == SPENT as u32 {
+        return RAN as u32;
+    }
+    code
+}
+
 fn ending_code(ending: Ending) -> u32
     ensures { λ r. ⌜ r ≡ endingCode ending ⌝ }
 {
@@ -138,23 +155,6 @@ pub extern "C" fn panel_run(
     let ending = finished.ending;
     save_after(count, last, state);
     counted(ending_code(ending), count)
-}
-
-// One cycle, as a run of one: the record is written by a cycle that ran, and by nothing else.
-#[no_mangle]
-pub extern "C" fn panel_cycle(
-    store: &[u64],
-    main: &mut [u8],
-    local: &mut [u8],
-    state: &mut [u8],
-) -> u32
-    ensures { λ r. ⌜ called r (now (main .exit)) (now (local .exit)) (now (state .exit)) ≡ cycleCall (now (store .entry)) (now (main .entry)) (now (local .entry)) (now (state .entry)) ⌝ }
-{
-    let code = (panel_run(store, main, local, state, 1) % 0x1_0000_0000) as u32;
-    if code == SPENT as u32 {
-        return RAN as u32;
-    }
-    code
 }
 
 // Puts the record of a cycle's work.
