@@ -210,7 +210,8 @@ pub fn add(a: u8, b: u8, c: Controls) -> Sum
     ))
 }
 
-// What the unit does with the bytes that CA and CB chose, step by step.
+// What the unit does with the bytes that CA and CB chose, step by step. It corrects by itself: with two callers a large correction
+// stays a call, and only decimal cycles make it.
 pub fn work_of(a: u8, b: u8, c: Controls) -> Work
     ensures { λ r. ⌜ r ≡ workOf a b c ⌝ }
 {

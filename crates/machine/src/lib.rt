@@ -93,7 +93,8 @@ fn after(f: Fields, z: Sum, a: Access, fetched: u8, s: State) -> State
     }
 }
 
-// What the fields of a word do: decide everything, then make at most one store.
+// What the fields of a word do: decide everything, then make at most one store. One expression, since a return from its middle
+// costs a cycle a copy of its answer.
 fn step(f: Fields, main: &mut [u8], local: &mut [u8], s: State) -> Cycled
     requires { ⌜ (f .cn < 64) × ((f .ck < 16) × (length (now local) ≡ 256)) ⌝ }
     ensures { λ r. ⌜ outcome r (now (main .exit)) (now (local .exit)) ≡ stepOf f (now (main .entry)) (now (local .entry)) s ⌝ }

@@ -200,48 +200,35 @@ press-is-run store main local state = by (ltb (length state) 22)
     by true = refl
     by false = ap (λ (r : Outcome Finished). ranBy r state) (one-cycle store (machine (loaded state) main local)) ∙ as-run store (o .answer) (o .main) (o .local) state
 
+-- the number of a press: as the end of a run it is below 2^32, and it comes back from there
+abbrev Told : ℕ → Type 0
+Told code = (asEnding code < 2 ^ 32) × (asPress (asEnding code) ≡ code)
+
 module _ (store main local state : List ℕ) where
-  answer-small : (r : Cycled) → cycleOf store main local (loaded state) .answer ≡ r → (m l : List ℕ) → asEnding (cycled r m l state .number) < 2 ^ 32
-  answer-small (C.Ran t) e m l = omega arith
-  answer-small (C.Stopped t) e m l = omega arith
-  answer-small (C.Refused t number field) e m l =
+  answer-told : (r : Cycled) → cycleOf store main local (loaded state) .answer ≡ r → (m l : List ℕ) → Told (cycled r m l state .number)
+  answer-told (C.Ran t) e m l = (omega arith, refl)
+  answer-told (C.Stopped t) e m l = (omega arith, refl)
+  answer-told (C.Refused t number field) e m l =
       let (n, f) = refusal-small store main local (loaded state) t number field e in
-      rw (ne-eqb (coded REFUSED number field) RAN (λ z. omega arith)) (omega arith)
+      rw (ne-eqb (coded REFUSED number field) RAN (λ z. omega arith), ne-eqb (coded REFUSED number field) SPENT (λ z. omega arith)) (omega arith, refl)
 
-  press-small : asEnding (cycleCall store main local state .number) < 2 ^ 32
+  press-told : Told (cycleCall store main local state .number)
   unfolding cycleCall
-  press-small = by (ltb (length state) 22)
+  press-told = by (ltb (length state) 22)
     where
       o : Outcome Cycled
       o = cycleOf store main local (loaded state)
 
-      by : (z : Bool) → asEnding (cond z (short main local state) (cycledBy o state) .number) < 2 ^ 32
-      by true = omega arith
-      by false = answer-small (o .answer) refl (o .main) (o .local)
-
-  answer-back : (r : Cycled) (m l : List ℕ) → asPress (asEnding (cycled r m l state .number)) ≡ cycled r m l state .number
-  answer-back (C.Ran t) m l = refl
-  answer-back (C.Stopped t) m l = refl
-  answer-back (C.Refused t number field) m l =
-      rw (ne-eqb (coded REFUSED number field) RAN (λ z. omega arith), ne-eqb (coded REFUSED number field) SPENT (λ z. omega arith))
-
-  press-back : asPress (asEnding (cycleCall store main local state .number)) ≡ cycleCall store main local state .number
-  unfolding cycleCall
-  press-back = by (ltb (length state) 22)
-    where
-      o : Outcome Cycled
-      o = cycleOf store main local (loaded state)
-
-      by : (z : Bool) → let c : Called = cond z (short main local state) (cycledBy o state) in asPress (asEnding (c .number)) ≡ c .number
-      by true = refl
-      by false = answer-back (o .answer) (o .main) (o .local)
+      by : (z : Bool) → Told (cond z (short main local state) (cycledBy o state) .number)
+      by true = (omega arith, refl)
+      by false = answer-told (o .answer) refl (o .main) (o .local)
 
   pub pressed : (number : ℕ) (m l out : List ℕ) → called number m l out ≡ runCall store main local state 1
       → called (asPress (codeIn number)) m l out ≡ cycleCall store main local state
   pressed number m l out e =
       let c : Called = cycleCall store main local state in
       let all : called number m l out ≡ shown c = e ∙ press-is-run store main local state in
-      let code = ap (λ (z : Called). asPress (codeIn (z .number))) all ∙ ap asPress (code-in (asEnding (c .number)) _ press-small) ∙ press-back in
+      let code = ap (λ (z : Called). asPress (codeIn (z .number))) all ∙ ap asPress (code-in (asEnding (c .number)) _ (press-told .0)) ∙ press-told .1 in
       λ i. called (code i) (all i .main) (all i .local) (all i .state)
 
 -- n cycles by the first, and then what is known of the second
@@ -271,7 +258,7 @@ some-presses (suc n) store c h =
     let known = subst (λ (z : Called). DividedCalls (suc n) (shown c1) z whole) (some-presses n store c1 (omega arith)) pressed in
     ap (λ (k : ℕ). pressRun k store c) two
     ∙ then-second (suc n) (shown c1) whole (asEnding (c1 .number)) (one (eqb (c1 .number) RAN)) (asEnding (last .number)) (ranIn (suc n) store c1) (last .main) (last .local) (last .state)
-    (λ z. omega arith) (ap (counted (asEnding (c1 .number))) (add-zero _)) (press-small store (c .main) (c .local) (c .state)) known
+    (λ z. omega arith) (ap (counted (asEnding (c1 .number))) (add-zero _)) (press-told store (c .main) (c .local) (c .state) .0) known
 
 -- a budget of 0 touches nothing
 no-press : (store main local state : List ℕ) → Untouched main local state (runCall store main local state 0)

@@ -97,7 +97,7 @@ fn save(s: State, state: &mut [u8])
     digits::copy(&shown[0..22], state);
 }
 
-// One cycle, as a run of one: the record is written by a cycle that ran, and by nothing else.
+// One cycle, as a run of one, so that a cycle has one caller. The record is written by a cycle that ran, and by nothing else.
 #[no_mangle]
 pub extern "C" fn panel_cycle(
     store: &[u64],
