@@ -101,6 +101,7 @@ fn step(f: Fields, main: &mut [u8], local: &mut [u8], s: State) -> Cycled
 {
     let field = modelled::unmodelled(f);
     let entered = sources::enter(f, s);
+    let z = sources::sum_in(f, entered);
     let access = storage::access_of(f, entered);
     if f.cf == 4 {
         Cycled::Stopped(s)
@@ -109,7 +110,6 @@ fn step(f: Fields, main: &mut [u8], local: &mut [u8], s: State) -> Cycled
     } else if storage::is_outside(main.len(), access) {
         Cycled::Refused(s, 11, 0)
     } else {
-        let z = sources::sum_in(f, entered);
         let fetched = storage::fetched(main, local, access);
         storage::put(main, local, access, entered.r);
         Cycled::Ran(after(f, z, access, fetched, entered))

@@ -16,53 +16,53 @@ use Rattle.machine.proofs.step.Tie as tie
 
 returns : tie.Need-returns
 returns c =
-    let a = c .before .before .before .before .before .before .before .args in
+    let a = c .before .before .before .before .before .before .before .before .args in
     sym (on-stop (a .f) (now (a .main)) (now (a .local)) (a .s) (eq-eqb _ _ (c .if1 .taken)))
 
 returns-2 : tie.Need-returns-2
 returns-2 c =
-    let a = c .before .before .before .before .before .before .before .before .args in
-    let field = c .before .before .before .before .before .unmodelled .ensures in
+    let a = c .before .before .before .before .before .before .before .before .before .args in
+    let field = c .before .before .before .before .before .before .unmodelled .ensures in
     ap (λ (n : ℕ). outcome (Refused (a .s) 10 n) (now (a .main)) (now (a .local))) field
     ∙ sym (on-10 (a .f) (now (a .main)) (now (a .local)) (a .s) (ne-eqb _ _ (c .before .if1 .left)) (λ e. c .if2 .taken (field ∙ e)))
 
 -- what is known where it was asked whether storage is inside: the word does not stop, its codes are modelled, and what storage is to do
-goes : (c : tie.After-is-outside) → stops (c .before .before .before .before .before .before .before .before .before .args .f) ≡ false
+goes : (c : tie.After-is-outside) → stops (c .before .before .before .before .before .before .before .before .before .before .args .f) ≡ false
 goes c = ne-eqb _ _ (c .before .before .if1 .left)
 
-modelled : (c : tie.After-is-outside) → unmodelledOf (c .before .before .before .before .before .before .before .before .before .args .f) ≡ 0
-modelled c = sym (c .before .before .before .before .before .before .unmodelled .ensures) ∙ c .before .if2 .left
+modelled : (c : tie.After-is-outside) → unmodelledOf (c .before .before .before .before .before .before .before .before .before .before .args .f) ≡ 0
+modelled c = sym (c .before .before .before .before .before .before .before .unmodelled .ensures) ∙ c .before .if2 .left
 
 inside : (c : tie.After-is-outside)
-    → c .is-outside .result ≡ outside (length (now (c .before .before .before .before .before .before .before .before .before .args .main))) (accessIn (c .before .before .before .before .before .before .before .before .before .args .f) (c .before .before .before .before .before .before .before .before .before .args .s))
+    → c .is-outside .result ≡ outside (length (now (c .before .before .before .before .before .before .before .before .before .before .args .main))) (accessIn (c .before .before .before .before .before .before .before .before .before .before .args .f) (c .before .before .before .before .before .before .before .before .before .before .args .s))
 inside c =
-    let a = c .before .before .before .before .before .before .before .before .before .args in
-    c .is-outside .ensures ∙ ap (outside (length (now (a .main)))) (c .before .before .before .before .access-of .ensures ∙ ap (accessOf (a .f)) (c .before .before .before .before .before .enter .ensures))
+    let a = c .before .before .before .before .before .before .before .before .before .before .args in
+    c .is-outside .ensures ∙ ap (outside (length (now (a .main)))) (c .before .before .before .before .access-of .ensures ∙ ap (accessOf (a .f)) (c .before .before .before .before .before .before .enter .ensures))
 
 returns-3 : tie.Need-returns-3
 returns-3 c =
     let w = c .before in
-    let a = w .before .before .before .before .before .before .before .before .before .args in
+    let a = w .before .before .before .before .before .before .before .before .before .before .args in
     sym (on-11 (a .f) (now (a .main)) (now (a .local)) (a .s) (goes w) (modelled w) (sym (inside w) ∙ c .if3 .taken))
 
 fetched-requires : tie.Need-fetched-requires
 fetched-requires c κs =
-    let w = c .before .before .before .before in
-    (w .before .before .before .before .before .before .before .before .before .pre .1 .1, sym (w .is-outside .ensures) ∙ c .before .before .before .if3 .left)
+    let w = c .before .before .before in
+    (w .before .before .before .before .before .before .before .before .before .before .pre .1 .1, sym (w .is-outside .ensures) ∙ c .before .before .if3 .left)
 
 put-requires : tie.Need-put-requires
 put-requires c κs =
-    let w = c .before .before .before .before .before .before .before in
-    (w .before .before .before .before .before .before .before .before .before .pre .1 .1, sym (w .is-outside .ensures) ∙ c .before .before .before .before .before .before .if3 .left)
+    let w = c .before .before .before .before .before .before in
+    (w .before .before .before .before .before .before .before .before .before .before .pre .1 .1, sym (w .is-outside .ensures) ∙ c .before .before .before .before .before .if3 .left)
 
 returns-4 : tie.Need-returns-4
 returns-4 c =
     let put = c .before .before .before .before .before in
-    let w = put .before .before .before .before .before .before .before .before in
-    let a = w .before .before .before .before .before .before .before .before .before .args in
-    ran-is (a .f) (now (a .main)) (now (a .local)) _ _ (a .s) _ _ _ _ _ (w .before .before .before .before .before .enter .ensures) (w .before .before .before .before .access-of .ensures) (put .before .before .before .before .before .before .sum-in .ensures) (put .before .before .before .fetched .ensures) (c .after .ensures)
+    let w = put .before .before .before .before .before .before .before in
+    let a = w .before .before .before .before .before .before .before .before .before .before .args in
+    ran-is (a .f) (now (a .main)) (now (a .local)) _ _ (a .s) _ _ _ _ _ (w .before .before .before .before .before .before .enter .ensures) (w .before .before .before .before .access-of .ensures) (w .before .before .before .before .before .sum-in .ensures) (put .before .before .before .fetched .ensures) (c .after .ensures)
     (put .put .ensures .0) (put .put .ensures .1)
-    ∙ sym (on-ran (a .f) (now (a .main)) (now (a .local)) (a .s) (goes w) (modelled w) (sym (inside w) ∙ put .before .before .before .before .before .before .before .if3 .left))
+    ∙ sym (on-ran (a .f) (now (a .main)) (now (a .local)) (a .s) (goes w) (modelled w) (sym (inside w) ∙ put .before .before .before .before .before .before .if3 .left))
 
 pub step-spec : {M : Type 1} → statement M
 step-spec =
@@ -70,9 +70,9 @@ step-spec =
     (tie.spec
     (λ c κs. tt)
     (λ c κs. tt)
+    (λ c κs. c .before .before .before .before .pre .1 .0)
     (λ c κs. tt)
     (λ c κs. tt)
-    (λ c κs. c .before .before .before .before .before .before .before .before .before .before .pre .1 .0)
     fetched-requires
     put-requires
     (λ c κs. c .before .before .before .before .before .before .before .before .before .before .before .before .before .before .before .before .before .before .before .before .before .pre .0)
