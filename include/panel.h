@@ -2,7 +2,8 @@
  *
  * Each function is `#[no_mangle] pub extern "C"` of the crate `panel`; a Rattle slice passes as a pointer and
  * then a length. Nothing is required of a caller but that pointer and length are true: each function tests its
- * own input, always returns, and on a refusal changes no lent byte. The numbers are document 01's.
+ * own input, always returns, and on a refusal changes no lent byte. The numbers are those of documents 01
+ * and 02.
  */
 #ifndef PANEL_INTERFACE /* not PANEL_H, which is a lamp channel */
 #define PANEL_INTERFACE
@@ -14,8 +15,9 @@
 extern "C" {
 #endif
 
-/* A state is 22 bytes, the lamp channels in document 01's order. A latch byte is off at 0 and on at any other
- * value; a cycle that ran writes 0 or 1. With ARRIVING off, ARRIVING_BYTE means nothing and a cycle writes 0. */
+/* A state is a record of PANEL_STATE bytes, one lamp channel to a byte. It grows at its end. A latch byte is off at 0
+ * and on at any other value; a cycle that ran writes 0 or 1. With ARRIVING off, ARRIVING_BYTE means nothing and a
+ * cycle writes 0. A longer record may be lent: the bytes past PANEL_STATE are not touched. */
 enum panel_channel {
     PANEL_I, PANEL_J, PANEL_U, PANEL_V, PANEL_L, PANEL_T, PANEL_D, PANEL_R, PANEL_S, PANEL_G, PANEL_H, PANEL_M,
     PANEL_N,
@@ -24,7 +26,9 @@ enum panel_channel {
     PANEL_ALLOW_WRITE,
     PANEL_LOCAL,    /* the storage kind last selected: 0 main, 1 local */
     PANEL_ARRIVING, PANEL_ARRIVING_BYTE,
-    PANEL_STATE     /* = 22, the record's length */
+    PANEL_DIGIT_CARRY,  /* the carry out of the low digit; off in a logical cycle */
+    PANEL_INVALID,      /* a digit over 9 on an input of a decimal cycle, as gated */
+    PANEL_STATE     /* = 24, the record's length */
 };
 
 enum panel_kind { PANEL_RAN = 0, PANEL_STOPPED = 1, PANEL_REFUSED = 2, PANEL_SPENT = 3, PANEL_SUMMED = 4, PANEL_BAD_DIGIT = 5 };
@@ -41,7 +45,7 @@ uint32_t panel_take_apart(uint64_t word, uint32_t address, uint8_t *fields, size
 uint32_t panel_pack(const uint8_t *fields, size_t fields_len, uint32_t address, uint64_t *word, size_t word_len);
 
 /* One cycle. kind + 256 * refusal number + 65536 * field of refusal 10 (else 0). PANEL_RAN, PANEL_STOPPED or
- * PANEL_REFUSED. 19 where fewer than 22 bytes of state are lent, checked first. */
+ * PANEL_REFUSED. 19 where fewer than PANEL_STATE bytes of state are lent, checked first. */
 uint32_t panel_cycle(const uint64_t *store, size_t words, uint8_t *main, size_t main_len,
                      uint8_t *local, size_t local_len, uint8_t *state, size_t state_len);
 

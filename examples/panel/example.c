@@ -1,8 +1,8 @@
-/* A start for a board's maker: pack the word P of document 01, run one cycle with it, print the 22 lamp channels. Then
+/* A start for a board's maker: pack the word P of document 01, run one cycle with it, print the lamp channels. Then
  * add 38, 47 and a carry by the shipped words, a cycle at a time, and look into the adder before each cycle. Then make
  * that addition on two panels, one with the single-cycle button and then the run button, one with the run button alone.
- * Then read a signed field, write its number back, and read one whose sign is bad. Last, subtract with signs. build.sh
- * beside this file builds and runs it.
+ * Then add with the six already in D, and see the lamp that tells. Then read a signed field, write its number back, and
+ * read one whose sign is bad. Last, subtract with signs. build.sh beside this file builds and runs it.
  */
 #include "../../include/panel.h"
 
@@ -10,7 +10,7 @@ int printf(const char *format, ...); /* of the C library, whose headers the kit 
 
 static const char *const names[PANEL_STATE] = {
     "I", "J", "U", "V", "L", "T", "D", "R", "S", "G", "H", "M", "N", "WX high", "WX low", "AC", "1BC", "Z0",
-    "allow write", "local", "arriving", "arriving byte"};
+    "allow write", "local", "arriving", "arriving byte", "digit carry", "invalid"};
 
 static uint8_t main_storage[256];
 static uint8_t local_storage[256];
@@ -108,6 +108,20 @@ static int two_buttons(void) {
     return !same(&first, &second, sizeof first);
 }
 
+/* Word 11 of the shipped words adds R and D. The adder adds the six itself: with the six in D already, a lamp tells. */
+static int six_by_hand(uint8_t d) {
+    uint64_t words[64];
+    uint32_t count = panel_shipped(words, 64);
+    if (count > 64 || panel_start(0, 0, 1, 0, state, sizeof state) != 0) return 1;
+    state[PANEL_R] = 0x38;
+    state[PANEL_D] = d;
+    state[PANEL_WX_LOW] = 0x11;
+    if (cycle(words, count) != PANEL_RAN) return 1;
+    printf("38 + %02X = %02X, digit carry %u, invalid %u\n", d, state[PANEL_R], state[PANEL_DIGIT_CARRY],
+           state[PANEL_INVALID]);
+    return 0;
+}
+
 /* Fifteen digits and a sign: D is minus, and 5 is no sign. */
 static int signed_fields(void) {
     static const uint8_t field[8] = {0x00, 0x00, 0x00, 0x00, 0x00, 0x12, 0x34, 0x5D};
@@ -137,6 +151,6 @@ static int with_signs(void) {
 }
 
 int main(void) {
-    return one_cycle_of_p() != 0 || shipped_words() != 0 || two_buttons() != 0 || signed_fields() != 0 ||
-           with_signs() != 0;
+    return one_cycle_of_p() != 0 || shipped_words() != 0 || two_buttons() != 0 || six_by_hand(0x47) != 0 ||
+           six_by_hand(0xAD) != 0 || signed_fields() != 0 || with_signs() != 0;
 }

@@ -15,6 +15,8 @@ static u8 set(u8 byte, int n, int on) {
     return on ? byte | mask : byte & ~mask;
 }
 
+static int over_9(u8 byte) { return (byte >> 4) > 9 || (byte & 15) > 9; }
+
 // 3 to 9, or 0.
 static int fault(u64 w, u32 at) {
     int ca_to_w = (w >> 39 & 15) == 2, k_to_w = (w >> 36 & 7) < 3 && (w >> 34 & 3) == 2;
@@ -79,7 +81,7 @@ static int low_branch(const struct plain *s, int cl) {
     switch (cl) {
     case 1:
     case 2: return 1;
-    case 5: return (r[R] >> 4) <= 9 && (r[R] & 15) <= 9;
+    case 5: return !over_9(r[R]);
     case 6: return s->bc1;
     case 7: return s->z0;
     case 8: return bit(r[G], 7);
@@ -148,20 +150,22 @@ static int cycle(const u64 *store, u64 words, u8 *main, u64 bytes, u8 *local, st
     a &= (cf & 1 ? 15 : 0) | (cf & 2 ? 240 : 0);
     int cg = w >> 11 & 3;
     b &= (cg & 1 ? 15 : 0) | (cg & 2 ? 240 : 0);
-    int complement = cv == 1 || (cv > 1 && t.reg[S] >> 7);
+    int complement = cv == 1 || (cv > 1 && t.reg[S] >> 7), bad = cv == 3 && (over_9(a) || over_9(b));
     if (complement) b = ~b;
     if (cc == 2 || cc == 3 || cc == 7) {
         z = cc == 2 ? a & b : cc == 3 ? a | b : a ^ b;
-        t.ac = t.bc1 = 0;
+        t.ac = t.bc1 = t.digit_carry = t.invalid = 0;
     } else {
         int carry = cc == 6 ? bit(t.reg[S], 3) : cc & 1;
         if (cv == 3 && !complement) b = ((b + 0x60) & 0xF0) | ((b + 6) & 15);
         u32 sum = a + b + carry;
         t.ac = sum >> 8;
         t.bc1 = ((a & 127) + (b & 127) + carry) >> 7;
+        t.digit_carry = ((a & 15) + (b & 15) + carry) >> 4;
+        t.invalid = bad;
         z = sum;
         if (cv == 3) {
-            if ((a & 15) + (b & 15) + carry < 16) z = (z & 0xF0) | ((z - 6) & 15);
+            if (!t.digit_carry) z = (z & 0xF0) | ((z - 6) & 15);
             if (!t.ac) z -= 0x60;
         }
     }

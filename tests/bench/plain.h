@@ -2,7 +2,7 @@
 struct plain {
     unsigned char reg[14];
     unsigned short wx;
-    unsigned char ac, bc1, z0, allow, local, arriving, byte;
+    unsigned char ac, bc1, z0, allow, local, arriving, byte, digit_carry, invalid;
 };
 
 unsigned long plain_run(const unsigned long *store, unsigned long words, unsigned char *main, unsigned long bytes,

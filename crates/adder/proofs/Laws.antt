@@ -1,12 +1,12 @@
 -- The laws of the sum: of one digit, of a byte by its two digits, and of the answer. Assumes nothing.
 use Prim.Native.Nat.{ℕ, _+_, _-_, _*_, _/_, _%_, _≤_, _<_}
-use mathlib.Core.Path.{_≡_, refl, sym, ap, _∙_}
+use mathlib.Core.Path.{_≡_, refl, ap, _∙_}
 use mathlib.Core.Bool.{Bool, true, false, cond, not, _&&_}
 use mathlib.Core.Logic.{_↔_}
 use native.Mathlib.Nat.{lt-of-le-of-lt}
 use native.Mathlib.Omega.{arith}
 use lib.Bits.{bitAnd, bitOr, bitXor, and-le-l, or-lt, xor-lt}
-use lib.Dec.{eqb, leb}
+use lib.Dec.{leb}
 use lib.Pow.{field, mod-mod-pow}
 use borrow.Author.Tests.{leb-true, leb-false, le-leb, eqb-true, eq-eqb}
 use Rattle.digits.specs.Bits.{one}
@@ -15,8 +15,9 @@ use Rattle.digits.specs.Digits.{high, low, digits, bothDecimal, val}
 use Rattle.rule.specs.Correction.{lowered}
 use Rattle.rule.proofs.Laws.{lowered-lt}
 use Rattle.adder.specs.Gates.{gatedA, gatedB}
-use Rattle.adder.specs.Adder.{isDecimal, isComplement, complement, turned, sixes, arithmetic, logical, carryIn, operations, operated, enteringB, sumOf}
+use Rattle.adder.specs.Adder.{isDecimal, isComplement, complement, turned, sixes, summed, uncarried, resultOf, finished, carryIn, operations, operated, enteringB, sumOf}
 use Rattle.adder.specs.declared.Controls.{Controls}
+use Rattle.adder.specs.declared.Uncorrected.{Uncorrected}
 use Rattle.adder.specs.declared.Sum.{Sum}
 use Rattle.digits.proofs.Table.{any}
 use Rattle.digits.proofs.Truth.{both, same-test}
@@ -40,6 +41,10 @@ digit n h = by (leb 16 (n + 6)) refl
     by false e = let t = leb-false 16 (n + 6) e in (omega arith, omega arith)
 
 -- ---- a byte, by its two digits
+
+-- the answer of a sum, whatever was judged of its inputs
+abbrev pub arithmetic : Bool → ℕ → ℕ → ℕ → Sum
+arithmetic decimal a b carry = finished false (summed decimal a b carry)
 
 carry-is : (sum : ℕ) → sum < 32 → sum / 16 ≡ carry sum
 carry-is sum h = by (leb 16 sum) refl
@@ -69,11 +74,11 @@ module _ (a b c : ℕ) (h : lows a b c < 32) where
   carry-of = same-test 256 (a + b + c) 16 ((a + b + c) / 16) (λ y. omega arith) (λ n. omega arith) ∙ ap (leb 16) sum-high
 
   corrected-is : arithmetic true a b c .result ≡ digits (left (highs a b c)) (left (lows a b c))
-  unfolding arithmetic
+  unfolding summed resultOf
   corrected-is = λ i. digits (lowered (carry-of i) (high-of i)) (lowered (leb 16 (lows a b c)) (low-of i))
 
   carry-out : one (arithmetic true a b c .ac) ≡ carry (highs a b c)
-  unfolding arithmetic
+  unfolding summed resultOf
   carry-out = ap one carry-of
 
 -- ---- decimal sums
@@ -170,7 +175,7 @@ module _ (a b c : ℕ) (ad : bothDecimal a ≡ true) (bd : bothDecimal b ≡ tru
 -- ---- binary sums
 
 pub binary-sum : (a b c : ℕ) → a < 256 → b < 256 → c < 2 → let s = arithmetic false a b c in s .result + 256 * one (s .ac) ≡ a + b + c
-unfolding arithmetic
+unfolding summed resultOf
 binary-sum a b c ab bb bit = by (leb 256 (a + b + c)) refl
   where
     by : (t : Bool) → leb 256 (a + b + c) ≡ t → (a + b + c) % 256 + 256 * one t ≡ a + b + c
@@ -180,7 +185,7 @@ binary-sum a b c ab bb bit = by (leb 256 (a + b + c)) refl
 -- ---- every answer
 
 pub arithmetic-byte : (decimal : Bool) (a b c : ℕ) → arithmetic decimal a b c .result < 256
-unfolding arithmetic
+unfolding summed resultOf
 arithmetic-byte false a b c = omega arith
 arithmetic-byte true a b c =
     let byte : ℕ = (a + b + c) % 256 in
@@ -197,29 +202,28 @@ entering-byte true complemented b h = omega arith
 entering-byte false complemented b h = turned-byte complemented b h
 
 -- what holds of every sum, and of the logical results, holds of the row at any CC
-module _ (P : Sum → Type 0) (sums : (decimal : Bool) (a b c : ℕ) → P (arithmetic decimal a b c)) (d : Bool) (x e : ℕ) (k : Bool) where
-  any-row : P (logical (bitAnd x e)) → P (logical (bitOr x e)) → P (logical (bitXor x e)) → (cc : ℕ) → P (operated cc d x e k)
+module _ (P : Uncorrected → Type 0) (sums : (decimal : Bool) (a b c : ℕ) → P (summed decimal a b c)) (d : Bool) (x e : ℕ) (k : Bool) where
+  any-row : P (uncarried (bitAnd x e)) → P (uncarried (bitOr x e)) → P (uncarried (bitXor x e)) → (cc : ℕ) → P (operated cc d x e k)
   any-row and or xor cc =
-      let sum : P (arithmetic d x e (one k)) = sums d x e (one k) in
-      any P (operations d x e k) (arithmetic d x e (one k)) (sum, (sum, (and, (or, (sum, (sum, (sum, (xor, tt)))))))) sum cc
+      let sum : P (summed d x e (one k)) = sums d x e (one k) in
+      any P (operations d x e k) (summed d x e (one k)) (sum, (sum, (and, (or, (sum, (sum, (sum, (xor, tt)))))))) sum cc
 
 module _ (a b : ℕ) (c : Controls) where
   abbrev the-a : ℕ
   the-a = gatedA (c .cf) a
 
+  abbrev the-b : ℕ
+  the-b = enteringB (gatedB (c .cg) b) c
+
   -- bytes stay bytes
   pub sum-byte : a < 256 → b < 256 → sumOf a b c .result < 256
-  unfolding sumOf
+  unfolding sumOf resultOf
   sum-byte ab bb =
       let x = gated-a-lt (c .cf) a ab in
       let e = entering-byte (isDecimal (c .cv) (c .cc) && not (isComplement (c .cv) (c .s0))) (isComplement (c .cv) (c .s0)) (gatedB (c .cg) b) (gated-b-lt (c .cg) b bb) in
-      any-row (λ (s : Sum). s .result < 256) arithmetic-byte (isDecimal (c .cv) (c .cc)) the-a (enteringB b c) (carryIn (c .cc) (c .s3))
-      (lt-of-le-of-lt (and-le-l the-a (enteringB b c)) x) (or-lt 8 the-a (enteringB b c) x e) (xor-lt 8 the-a (enteringB b c) x e) (c .cc)
-
-  zero-test : sumOf a b c .z0 ≡ eqb (sumOf a b c .result) 0
-  unfolding sumOf arithmetic
-  zero-test =
-      any-row (λ (s : Sum). s .z0 ≡ eqb (s .result) 0) (λ d x e k. refl) (isDecimal (c .cv) (c .cc)) the-a (enteringB b c) (carryIn (c .cc) (c .s3)) refl refl refl (c .cc)
+      any-row (λ (u : Uncorrected). resultOf u < 256) arithmetic-byte (isDecimal (c .cv) (c .cc)) the-a the-b (carryIn (c .cc) (c .s3))
+      (lt-of-le-of-lt (and-le-l the-a the-b) x) (or-lt 8 the-a the-b x e) (xor-lt 8 the-a the-b x e) (c .cc)
 
   pub zero-exactly : (sumOf a b c .z0 ≡ true) ↔ (sumOf a b c .result ≡ 0)
-  zero-exactly = (λ z. eqb-true _ 0 (sym zero-test ∙ z), λ r. zero-test ∙ eq-eqb _ 0 r)
+  unfolding sumOf
+  zero-exactly = (λ z. eqb-true _ 0 z, λ r. eq-eqb _ 0 r)

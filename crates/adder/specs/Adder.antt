@@ -6,7 +6,7 @@ use lib.Bits.{bitAnd, bitOr, bitXor}
 use lib.Dec.{eqb, leb}
 use lib.ListN.{getD}
 use Rattle.digits.specs.Bits.{one}
-use Rattle.digits.specs.Digits.{high, low, digits}
+use Rattle.digits.specs.Digits.{high, low, digits, bothDecimal}
 use Rattle.rule.specs.Correction.{corrected}
 use Rattle.adder.specs.Gates.{gatedA, gatedB}
 use Rattle.adder.specs.declared.Controls.{Controls}
@@ -26,6 +26,10 @@ isLogical cc = eqb cc 2 || (eqb cc 3 || eqb cc 7)
 abbrev pub isDecimal : ℕ → ℕ → Bool
 isDecimal cv cc = eqb cv 3 && not (isLogical cc)
 
+-- "a digit over 9 on either input of a decimal cycle, as gated and before any complement or six"
+abbrev pub isInvalid : Bool → ℕ → ℕ → Bool
+isInvalid decimal a b = decimal && not (bothDecimal a && bothDecimal b)
+
 -- "Complement turns every bit of gated B."
 abbrev pub complement : ℕ → ℕ
 complement b = 255 - b
@@ -42,8 +46,9 @@ sixes b = digits ((high b + 6) % 16) ((low b + 6) % 16)
 abbrev pub entering : Bool → Bool → ℕ → ℕ
 entering decimal complemented b = cond (decimal && not complemented) (sixes b) (turned complemented b)
 
--- "The sum is A + B + carry in. AC is set at 256 or more; 1BC when the low seven bits with the carry in reach 128."
-abbrev pub summed : Bool → ℕ → ℕ → ℕ → Uncorrected
+-- "The sum is A + B + carry in. AC is set at 256 or more; 1BC when the low seven bits with the carry in reach 128.": of A as gated and B as
+-- it enters. "a lamp for the carry between digits"
+unfoldable pub summed : Bool → ℕ → ℕ → ℕ → Uncorrected
 summed decimal a b carry =
     record {
       byte = (a + b + carry) % 256;
@@ -53,13 +58,17 @@ summed decimal a b carry =
       decimal = decimal;
     }
 
+-- "Logical operations .. make no decimal change, and set AC and 1BC to 0."; "in logical cycles both are off"
+abbrev pub uncarried : ℕ → Uncorrected
+uncarried byte = record { byte = byte; ac = false; «one_bc» = false; «digit_carry» = false; decimal = false }
+
 -- "In decimal" the byte is corrected, by the carries out of its two digits
-abbrev pub resultOf : Uncorrected → ℕ
+unfoldable pub resultOf : Uncorrected → ℕ
 resultOf u = cond (u .decimal) (corrected (u .«digit_carry») (u .ac) (u .byte)) (u .byte)
 
--- the answer. "Z0 is set when the final result is 0."
-abbrev pub finished : Uncorrected → Sum
-finished u =
+-- the answer, with what was judged of the inputs. "Z0 is set when the final result is 0."
+abbrev pub finished : Bool → Uncorrected → Sum
+finished invalid u =
     record {
       result = resultOf u;
       ac = u .ac;
@@ -67,18 +76,8 @@ finished u =
       z0 = eqb (resultOf u) 0;
       uncorrected = u .byte;
       «digit_carry» = u .«digit_carry»;
+      invalid = invalid;
     }
-
--- of A as gated, B as it enters the adder, and the carry in
-unfoldable pub arithmetic : Bool → ℕ → ℕ → ℕ → Sum
-arithmetic decimal a b carry = finished (summed decimal a b carry)
-
--- "Logical operations .. make no decimal change, and set AC and 1BC to 0."
-abbrev pub uncarried : ℕ → Uncorrected
-uncarried byte = record { byte = byte; ac = false; «one_bc» = false; «digit_carry» = false; decimal = false }
-
-abbrev pub logical : ℕ → Sum
-logical byte = finished (uncarried byte)
 
 -- "CC: 0 +0, 1 +1, .. 4 +0 save, 5 +1 save, 6 +S3 save": the carry in, 0 in a logical operation
 abbrev pub carryIn : ℕ → Bool → Bool
@@ -95,28 +94,32 @@ carryIn cc s3 =
     []) cc false
 
 -- "CC: 0 +0, 1 +1, 2 AND, 3 OR, 4 +0 save, 5 +1 save, 6 +S3 save, 7 XOR."
-abbrev pub operations : Bool → ℕ → ℕ → Bool → List Sum
+abbrev pub operations : Bool → ℕ → ℕ → Bool → List Uncorrected
 operations decimal a b carry =
-    arithmetic decimal a b (one carry) ∷  -- 0
-    arithmetic decimal a b (one carry) ∷  -- 1
-    logical (bitAnd a b) ∷  -- 2
-    logical (bitOr a b) ∷  -- 3
-    arithmetic decimal a b (one carry) ∷  -- 4
-    arithmetic decimal a b (one carry) ∷  -- 5
-    arithmetic decimal a b (one carry) ∷  -- 6
-    logical (bitXor a b) ∷  -- 7
+    summed decimal a b (one carry) ∷  -- 0
+    summed decimal a b (one carry) ∷  -- 1
+    uncarried (bitAnd a b) ∷  -- 2
+    uncarried (bitOr a b) ∷  -- 3
+    summed decimal a b (one carry) ∷  -- 4
+    summed decimal a b (one carry) ∷  -- 5
+    summed decimal a b (one carry) ∷  -- 6
+    uncarried (bitXor a b) ∷  -- 7
     []
 
-abbrev pub operated : ℕ → Bool → ℕ → ℕ → Bool → Sum
-operated cc decimal a b carry = getD (operations decimal a b carry) cc (arithmetic decimal a b (one carry))
+abbrev pub operated : ℕ → Bool → ℕ → ℕ → Bool → Uncorrected
+operated cc decimal a b carry = getD (operations decimal a b carry) cc (summed decimal a b (one carry))
 
--- B as it enters, from what CB chose
+-- B as it enters, from B as gated
 abbrev pub enteringB : ℕ → Controls → ℕ
-enteringB b c = entering (isDecimal (c .cv) (c .cc)) (isComplement (c .cv) (c .s0)) (gatedB (c .cg) b)
+enteringB b c = entering (isDecimal (c .cv) (c .cc)) (isComplement (c .cv) (c .s0)) b
 
 -- what the arithmetic unit makes of the bytes that CA and CB chose
 unfoldable pub sumOf : ℕ → ℕ → Controls → Sum
-sumOf a b c = operated (c .cc) (isDecimal (c .cv) (c .cc)) (gatedA (c .cf) a) (enteringB b c) (carryIn (c .cc) (c .s3))
+sumOf a b c =
+    let decimal : Bool = isDecimal (c .cv) (c .cc) in
+    let a : ℕ = gatedA (c .cf) a in
+    let b : ℕ = gatedB (c .cg) b in
+    finished (isInvalid decimal a b) (operated (c .cc) decimal a (enteringB b c) (carryIn (c .cc) (c .s3)))
 
 -- and what it does on the way: A and B as chosen, as gated and as they enter, the carry in, and the sum before and after correction
 unfoldable pub workOf : ℕ → ℕ → Controls → Work
@@ -126,7 +129,7 @@ workOf a b c =
       «a_gated» = gatedA (c .cf) a;
       «b_chosen» = b;
       «b_gated» = gatedB (c .cg) b;
-      «b_entering» = enteringB b c;
+      «b_entering» = enteringB (gatedB (c .cg) b) c;
       «carry_in» = carryIn (c .cc) (c .s3);
       before = sumOf a b c .uncorrected;
       after = sumOf a b c .result;

@@ -1,7 +1,7 @@
 // The arithmetic unit, from the bytes that CA and CB chose to the result and its latches.
 ghost use mathlib.Core.Path.{_≡_};
 ghost use Rattle.adder.specs.Gates.{gatedA, gatedB};
-ghost use Rattle.adder.specs.Adder.{isComplement, isDecimal, turned, sixes, entering, summed, resultOf, finished, uncarried, carryIn, operated, enteringB, sumOf, workOf};
+ghost use Rattle.adder.specs.Adder.{isComplement, isDecimal, isInvalid, turned, sixes, entering, summed, resultOf, finished, uncarried, carryIn, operated, enteringB, sumOf, workOf};
 
 // What is to be done: four fields of the word, and the bits of S that CV and CC may ask.
 pub struct Controls {
@@ -22,7 +22,7 @@ struct Uncorrected {
     decimal: bool,
 }
 
-// The result and its latches, and for the board's jumper the sum before correction with its carry out of the low digit.
+// The result and its latches, the sum before correction, and two lamps: the carry out of the low digit, and a digit over 9 on an input.
 pub struct Sum {
     pub result: u8,
     pub ac: bool,
@@ -30,6 +30,7 @@ pub struct Sum {
     pub z0: bool,
     pub uncorrected: u8,
     pub digit_carry: bool,
+    pub invalid: bool,
 }
 
 // What the unit did on the way to its answer, for the lamps between the registers and the adder.
@@ -141,14 +142,18 @@ fn is_decimal(cv: u8, cc: u8) -> bool
     (cv == 3) & !((cc == 2) | ((cc == 3) | (cc == 7)))
 }
 
+// A digit over 9 on either input, as gated.
+fn is_invalid(decimal: bool, a: u8, b: u8) -> bool
+    ensures { λ r. ⌜ r ≡ isInvalid decimal a b ⌝ }
+{
+    decimal & !(digits::both_decimal(a) & digits::both_decimal(b))
+}
+
+// B as it enters, from B as gated.
 fn entering_b(b: u8, c: Controls) -> u8
     ensures { λ r. ⌜ r ≡ enteringB b c ⌝ }
 {
-    entering(
-        is_decimal(c.cv, c.cc),
-        is_complement(c.cv, c.s0),
-        gated_b(c.cg, b),
-    )
+    entering(is_decimal(c.cv, c.cc), is_complement(c.cv, c.s0), b)
 }
 
 fn carry_in(cc: u8, s3: bool) -> bool
@@ -163,7 +168,7 @@ fn carry_in(cc: u8, s3: bool) -> bool
 
 // By CC. That 4 to 6 save the carry is the cycle's to do.
 fn operated(cc: u8, decimal: bool, a: u8, b: u8, carry: bool) -> Uncorrected
-    ensures { λ r. ⌜ finished r ≡ operated cc decimal a b carry ⌝ }
+    ensures { λ r. ⌜ r ≡ operated cc decimal a b carry ⌝ }
 {
     match cc {
         2 => uncarried(a & b),
@@ -183,8 +188,8 @@ fn result(u: Uncorrected) -> u8
     }
 }
 
-fn finished(u: Uncorrected) -> Sum
-    ensures { λ r. ⌜ r ≡ finished u ⌝ }
+fn finished(invalid: bool, u: Uncorrected) -> Sum
+    ensures { λ r. ⌜ r ≡ finished invalid u ⌝ }
 {
     let result = result(u);
     Sum {
@@ -194,6 +199,7 @@ fn finished(u: Uncorrected) -> Sum
         z0: result == 0,
         uncorrected: u.byte,
         digit_carry: u.digit_carry,
+        invalid: invalid,
     }
 }
 
@@ -201,13 +207,13 @@ fn finished(u: Uncorrected) -> Sum
 pub fn add(a: u8, b: u8, c: Controls) -> Sum
     ensures { λ r. ⌜ r ≡ sumOf a b c ⌝ }
 {
-    finished(operated(
-        c.cc,
-        is_decimal(c.cv, c.cc),
-        gated_a(c.cf, a),
-        entering_b(b, c),
-        carry_in(c.cc, c.s3),
-    ))
+    let decimal = is_decimal(c.cv, c.cc);
+    let a_gated = gated_a(c.cf, a);
+    let b_gated = gated_b(c.cg, b);
+    let b_entering = entering_b(b_gated, c);
+    let carry = carry_in(c.cc, c.s3);
+    let sum = operated(c.cc, decimal, a_gated, b_entering, carry);
+    finished(is_invalid(decimal, a_gated, b_gated), sum)
 }
 
 // What the unit does with the bytes that CA and CB chose, step by step. It corrects by itself: with two callers a large correction
@@ -216,7 +222,8 @@ pub fn work_of(a: u8, b: u8, c: Controls) -> Work
     ensures { λ r. ⌜ r ≡ workOf a b c ⌝ }
 {
     let a_gated = gated_a(c.cf, a);
-    let b_entering = entering_b(b, c);
+    let b_gated = gated_b(c.cg, b);
+    let b_entering = entering_b(b_gated, c);
     let carry = carry_in(c.cc, c.s3);
     let sum = operated(c.cc, is_decimal(c.cv, c.cc), a_gated, b_entering, carry);
     let corrected = correction::corrected(sum.digit_carry, sum.ac, sum.byte);
@@ -224,7 +231,7 @@ pub fn work_of(a: u8, b: u8, c: Controls) -> Work
         a_chosen: a,
         a_gated: a_gated,
         b_chosen: b,
-        b_gated: gated_b(c.cg, b),
+        b_gated: b_gated,
         b_entering: b_entering,
         carry_in: carry,
         before: sum.byte,

@@ -24,6 +24,8 @@ pub fn drawn_state(c: u64, e: u64, wx: u16) -> State {
         local_selected: e / 0x1000_0000_0000 % 2 == 1,
         arriving: e / 0x2000_0000_0000 % 2 == 1,
         arriving_byte: (e / 0x100_0000_0000_0000) as u8,
+        digit_carry: e / 0x4000_0000_0000 % 2 == 1,
+        invalid: e / 0x8000_0000_0000 % 2 == 1,
     }
 }
 
@@ -62,23 +64,17 @@ pub fn eight(a: u8, b: u8, c: u8, d: u8, e: u8, f: u8, g: u8, h: u8) -> u64 {
         + h as u64
 }
 
-// Six latches and the arriving byte as one number.
-fn seven(
-    ac: bool,
-    one_bc: bool,
-    z0: bool,
-    allow: bool,
-    local: bool,
-    arriving: bool,
-    byte: u8,
-) -> u64 {
-    digits::one(ac) as u64 * 0x2000
-        + digits::one(one_bc) as u64 * 0x1000
-        + digits::one(z0) as u64 * 0x800
-        + digits::one(allow) as u64 * 0x400
-        + digits::one(local) as u64 * 0x200
-        + digits::one(arriving) as u64 * 0x100
-        + byte as u64
+// The latches and the arriving byte as one number.
+fn latches(s: State) -> u64 {
+    digits::one(s.digit_carry) as u64 * 0x8000
+        + digits::one(s.invalid) as u64 * 0x4000
+        + digits::one(s.ac) as u64 * 0x2000
+        + digits::one(s.one_bc) as u64 * 0x1000
+        + digits::one(s.z0) as u64 * 0x800
+        + digits::one(s.allow_write) as u64 * 0x400
+        + digits::one(s.local_selected) as u64 * 0x200
+        + digits::one(s.arriving) as u64 * 0x100
+        + s.arriving_byte as u64
 }
 
 // The digest after all of a state.
@@ -87,14 +83,5 @@ pub fn mix_state(digest: u64, s: State) -> u64 {
     let x_low = (s.wx % 256) as u8;
     let w_high = (s.wx / 256) as u8;
     let second = eight(s.s, s.g, s.h, s.m, s.n, 0, w_high, x_low);
-    let third = seven(
-        s.ac,
-        s.one_bc,
-        s.z0,
-        s.allow_write,
-        s.local_selected,
-        s.arriving,
-        s.arriving_byte,
-    );
-    crate::mix(crate::mix(crate::mix(digest, first), second), third)
+    crate::mix(crate::mix(crate::mix(digest, first), second), latches(s))
 }

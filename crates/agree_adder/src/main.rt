@@ -6,10 +6,11 @@ use libc::STDOUT_FILENO;
 
 // All that the adder hands back, as one number.
 fn value(z: Sum) -> u64 {
-    let latches = digits::one(z.ac) as u64 * 8
-        + digits::one(z.one_bc) as u64 * 4
-        + digits::one(z.z0) as u64 * 2
-        + digits::one(z.digit_carry) as u64;
+    let latches = digits::one(z.ac) as u64 * 16
+        + digits::one(z.one_bc) as u64 * 8
+        + digits::one(z.z0) as u64 * 4
+        + digits::one(z.digit_carry) as u64 * 2
+        + digits::one(z.invalid) as u64;
     z.result as u64 * 65536 + z.uncorrected as u64 * 256 + latches
 }
 
@@ -123,7 +124,7 @@ fn corrections() {
     agree::print_digest(1024, digest);
 }
 
-// A worked sum by its name: result, sum before correction, AC, 1BC, Z0 and the low digit's carry.
+// A worked sum by its name: result, sum before correction, AC, 1BC, Z0, the digit carry and whether a digit is invalid.
 fn worked(name: &[u8], a: u8, b: u8, c: Controls) {
     io::write_all(STDOUT_FILENO, name);
     io::write_all(STDOUT_FILENO, b" ");

@@ -7,9 +7,9 @@ use lib.Dec.{leb}
 use lib.ListN.{length, getD, set}
 use Rattle.digits.specs.Bits.{one, withBit}
 use Rattle.digits.proofs.Bits.{bit-with}
-use Rattle.adder.specs.Adder.{arithmetic, sumOf}
+use Rattle.adder.specs.Adder.{summed, resultOf, sumOf}
 use Rattle.adder.specs.declared.Sum.{Sum}
-use Rattle.adder.proofs.Laws.{arithmetic-byte}
+use Rattle.adder.proofs.Laws.{arithmetic, arithmetic-byte}
 use Rattle.machine.specs.Sources.{entered, sumIn}
 use Rattle.machine.specs.Branch.{nextOf}
 use Rattle.machine.specs.Storage.{accessOf}
@@ -102,7 +102,7 @@ module _ (local main : List ℕ) (fits : length main ≤ 65536) (a b l t : ℕ) 
 
   -- zero is plus
   pub seals-zero : (minus : Bool) → Block signedWords local 3 (at 0x2C main (view a b l t c (marked p z last minus first))) (ended DONE (set main a (signed-last (getD main a 0) false)) false)
-  unfolding entered sumIn sumOf accessOf nextOf statusOf unmodelledOf marks arithmetic
+  unfolding entered sumIn sumOf accessOf nextOf statusOf unmodelledOf marks summed resultOf
   seals-zero minus =
       look signedWords local 0x2C main (view a b l t c (marked p z last minus first))
       (λ x right carry status.
@@ -117,7 +117,7 @@ module _ (local main : List ℕ) (fits : length main ≤ 65536) (a b l t : ℕ) 
 
   -- any other number has its own sign, and so has one that overflowed
   pub seals : (over minus : Bool) → Block signedWords local 3 (at (cond over 0x2D 0x2E) main (view a b l t c (marked p z last minus first))) (ended DONE (set main a (signed-last (getD main a 0) minus)) over)
-  unfolding entered sumIn sumOf accessOf nextOf statusOf unmodelledOf marks arithmetic
+  unfolding entered sumIn sumOf accessOf nextOf statusOf unmodelledOf marks summed resultOf
   seals false false =
       look signedWords local 0x2E main (view a b l t c (marked p z last false first))
       (λ x right carry status.

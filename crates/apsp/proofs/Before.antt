@@ -12,7 +12,7 @@ use Rattle.digits.specs.Bits.{bit}
 use Rattle.digits.specs.Digits.{high, low}
 use Rattle.digits.proofs.Table.{alike}
 use Rattle.adder.specs.Gates.{crossed}
-use Rattle.adder.specs.Adder.{arithmetic, sumOf}
+use Rattle.adder.specs.Adder.{summed, resultOf, sumOf}
 use Rattle.machine.specs.Sources.{entered, sumIn}
 use Rattle.machine.specs.Branch.{nextOf}
 use Rattle.machine.specs.Storage.{accessOf}
@@ -30,7 +30,7 @@ use Rattle.apsp.proofs.Own.{steps}
 pub begins : (local main : List ℕ) (a b k : ℕ) (subtract : Bool) → Right signedWords (machine (signedStart a b (suc k) subtract) main local) → a < 65536 → b < 65536 → k < 255
     → (none : Bool) → eqb k 0 ≡ none
     → Reaches signedWords local 2 (machine (signedStart a b (suc k) subtract) main local) (at (branch 0x02 none) main (view a b k k false (marked subtract false false false false)))
-unfolding entered sumIn sumOf accessOf nextOf statusOf unmodelledOf arithmetic marks
+unfolding entered sumIn sumOf accessOf nextOf statusOf unmodelledOf summed resultOf marks
 begins local main a b k subtract right ha hb small none e =
     steps local (run 0x00 ∷ run 0x01 ∷ []) tt right
     (record {
@@ -59,7 +59,7 @@ abbrev eight : ℕ → ℕ
 eight s = bitAnd (low (crossed s)) 8
 
 s0-carries : (s : ℕ) → carries (eight s) ≡ bit s 0
-unfolding arithmetic
+unfolding summed resultOf
 s0-carries s =
     let e : low (crossed s) ≡ s / 16 % 16 = omega arith in
     let f : s / 16 / 8 ≡ s / 128 = omega arith in
@@ -107,7 +107,7 @@ module _ (local main : List ℕ) (fits : length main ≤ 65536) (a b l t : ℕ) 
 
   -- 21: the first carry is S0, and S4 is on
   pub readied : Block signedWords local 1 (at 0x21 main (view a b l t c m)) (at 0x0A main (view a b l t (m .s0) (mark 4 true m)))
-  unfolding entered sumIn sumOf accessOf nextOf statusOf unmodelledOf marks
+  unfolding entered sumIn sumOf resultOf accessOf nextOf statusOf unmodelledOf marks
   readied =
       look signedWords local 0x21 main (view a b l t c m)
       (λ x right carry status.

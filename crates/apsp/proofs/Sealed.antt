@@ -12,8 +12,7 @@ use Rattle.digits.specs.Bits.{one}
 use Rattle.digits.specs.Digits.{high, low}
 use Rattle.digits.specs.Packed.{preferred, signedBytes}
 use Rattle.digits.proofs.Bits.{one-lt}
-use Rattle.adder.specs.Adder.{arithmetic}
-use Rattle.adder.proofs.Laws.{arithmetic-byte, binary-sum, both-at-most}
+use Rattle.adder.proofs.Laws.{arithmetic, arithmetic-byte, binary-sum, both-at-most}
 use Rattle.decimal.specs.Value.{value}
 use Rattle.decimal.proofs.Fields.{Sound, value-same}
 use Rattle.decimal.proofs.Stands.{Stands}

@@ -12,7 +12,8 @@ use Rattle.digits.specs.Packed.{signOf, isMinus}
 use Rattle.digits.proofs.Table.{alike}
 use Rattle.digits.proofs.Truth.{true-not-false, both}
 use Rattle.adder.specs.Gates.{crossed}
-use Rattle.adder.specs.Adder.{arithmetic, sumOf}
+use Rattle.adder.specs.Adder.{summed, resultOf, sumOf}
+use Rattle.adder.proofs.Laws.{arithmetic}
 use Rattle.machine.specs.Sources.{entered, sumIn}
 use Rattle.machine.specs.Branch.{nextOf}
 use Rattle.machine.specs.Storage.{accessOf}
@@ -41,11 +42,11 @@ tested byte = arithmetic false (turned byte) 64 0 .result
 
 -- the branch of 16 asks for a digit and a sign, and that of 1B for minus: over all 256 bytes
 good-is : (byte : ℕ) → byte < 256 → carried byte && bothDecimal (turned byte) ≡ signedByte byte
-unfolding arithmetic
+unfolding summed resultOf
 good-is = alike 256 (λ (b : ℕ). carried b && bothDecimal (turned b)) signedByte tt
 
 minus-is : (byte : ℕ) → byte < 256 → signedByte byte && (not (bit (tested byte) 0) && bit (tested byte) 3) ≡ signedByte byte && isMinus (signOf (low byte))
-unfolding arithmetic
+unfolding summed resultOf
 minus-is = alike 256 (λ (b : ℕ). signedByte b && (not (bit (tested b) 0) && bit (tested b) 3)) (λ (b : ℕ). signedByte b && isMinus (signOf (low b))) tt
 
 -- ---- minus turns S0 over, and S6 on
@@ -55,7 +56,7 @@ turnedMarks minus m = marked (cond minus (not (m .s0)) (m .s0)) (m .s2) (m .s4) 
 
 -- S and 80
 plus-80 : (s : ℕ) → marks (arithmetic false s 128 0 .result) ≡ marked (not (bit s 0)) (bit s 2) (bit s 4) (bit s 6) (bit s 7)
-unfolding arithmetic marks
+unfolding summed resultOf marks
 plus-80 s =
     let e2 : (s + 128 + 0) % 256 / 32 % 2 ≡ s / 32 % 2 = omega arith in
     let e4 : (s + 128 + 0) % 256 / 8 % 2 ≡ s / 8 % 2 = omega arith in
@@ -155,4 +156,4 @@ module _ (local main : List ℕ) (a b l t : ℕ) (c : Bool) (m : Marks) where
         by false false e f k = refuses local 0x18 tt refl main (to-stop false false refl 0x18 refl) x right (known, (e, f))
         by false true e f k = refuses local 0x19 tt refl main (to-stop false true refl 0x19 refl) x right (known, (e, f))
         by true false e f k = refuses local 0x1A tt refl main (to-stop true false refl 0x1A refl) x right (known, (e, f))
-        by true true e f k = absurd (true-not-false refl (rw (e, f) at k))
+        by true true e f k = absurd (true-not-false (λ i. e i && f i) k)

@@ -15,7 +15,7 @@ use Rattle.digits.proofs.Truth.{zero-one}
 use Rattle.digits.specs.Lent.{over}
 use Rattle.machine.specs.declared.State.{State}
 use Rattle.channels.specs.Lamps.{Kind, byte, pair, latch, Value, Values, size, width, lampBytes, valueAt, save, load, kindsOf, valuesOf}
-use Rattle.channels.specs.Channels.{channels, stateBy, saved, loaded}
+use Rattle.channels.specs.Channels.{channels, recordLength, stateBy, saved, loaded}
 
 -- ---- what was saved is loaded again
 
@@ -94,9 +94,9 @@ save-loaded (c ∷ cs) l i h (k, ks) =
 -- loading what was saved gives the state back
 pub state-back : (s : State) (old : List ℕ) → loaded (over (saved s) old) ≡ s
 unfolding saved loaded
-state-back s old = ap stateBy (load-saved (kindsOf channels) (valuesOf channels s) (over (saved s) old) 0 (drop 22 old) refl)
+state-back s old = ap stateBy (load-saved (kindsOf channels) (valuesOf channels s) (over (saved s) old) 0 (drop recordLength old) refl)
 
 -- saving what was loaded gives the bytes back, where latch bytes are 0 or 1
-pub record-back : (bytes : List ℕ) → 22 ≤ length bytes → AllClean (kindsOf channels) 0 bytes → over (saved (loaded bytes)) bytes ≡ bytes
+pub record-back : (bytes : List ℕ) → recordLength ≤ length bytes → AllClean (kindsOf channels) 0 bytes → over (saved (loaded bytes)) bytes ≡ bytes
 unfolding saved loaded
 record-back bytes h k = save-loaded (kindsOf channels) bytes 0 h k

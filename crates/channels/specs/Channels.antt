@@ -29,6 +29,8 @@ channels =
     latchOf "LS" "LOCAL" (λ s. s .«local_selected») ∷
     latchOf "AR" "ARRIVING" (λ s. s .arriving) ∷
     byteOf "AB" "BYTE" (λ s. s .«arriving_byte») ∷
+    latchOf "DC" "DIGIT-CY" (λ s. s .«digit_carry») ∷
+    latchOf "INV" "INVALID" (λ s. s .invalid) ∷
     []
 
 -- the work of a cycle, between the registers and the adder
@@ -44,13 +46,13 @@ workChannels =
     byteOf "AFTER" "AFTER" (λ w. w .after) ∷
     []
 
--- PANEL_STATE: 22
+-- PANEL_STATE: 24
 abbrev pub recordLength : ℕ
 recordLength = width (kindsOf channels)
 
 -- the state that the channels show
 abbrev pub stateBy : Values (kindsOf channels) → State
-stateBy (i, (j, (u, (v, (l, (t, (d, (r, (s, (g, (h, (m, (n, (wx, (ac, (bc, (z, (allow, (local, (arriving, (arrived, _))))))))))))))))))))) =
+stateBy (i, (j, (u, (v, (l, (t, (d, (r, (s, (g, (h, (m, (n, (wx, (ac, (bc, (z, (allow, (local, (arriving, (arrived, (carry, (invalid, _))))))))))))))))))))))) =
     record {
       i = i;
       j = j;
@@ -73,6 +75,8 @@ stateBy (i, (j, (u, (v, (l, (t, (d, (r, (s, (g, (h, (m, (n, (wx, (ac, (bc, (z, (
       «local_selected» = local;
       arriving = arriving;
       «arriving_byte» = arrived;
+      «digit_carry» = carry;
+      invalid = invalid;
     }
 
 -- "A state is a record of PANEL_STATE bytes, one lamp channel to a byte": the record of a state, and the state of a record

@@ -40,11 +40,13 @@ pub fn loaded(bytes: &[u8]) -> State
         local_selected: byte_at(bytes, 19) != 0,
         arriving: byte_at(bytes, 20) != 0,
         arriving_byte: byte_at(bytes, 21),
+        digit_carry: byte_at(bytes, 22) != 0,
+        invalid: byte_at(bytes, 23) != 0,
     }
 }
 
 // The record of a state.
-pub fn saved(s: State) -> [u8; 22]
+pub fn saved(s: State) -> [u8; 24]
     ensures { λ r. ⌜ r ≡ saved s ⌝ }
 {
     [
@@ -70,6 +72,8 @@ pub fn saved(s: State) -> [u8; 22]
         one(s.local_selected),
         one(s.arriving),
         s.arriving_byte,
+        one(s.digit_carry),
+        one(s.invalid),
     ]
 }
 

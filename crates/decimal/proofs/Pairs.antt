@@ -8,9 +8,9 @@ use borrow.Author.Tests.{lt-leb, ne-eqb}
 use lib.Dec.{leb}
 use Rattle.digits.specs.Bits.{one, bit, withBit}
 use Rattle.digits.proofs.Bits.{one-lt, bit-with}
-use Rattle.adder.specs.Adder.{arithmetic}
+use Rattle.adder.specs.Adder.{summed, resultOf}
 use Rattle.adder.specs.declared.Sum.{Sum}
-use Rattle.adder.proofs.Laws.{arithmetic-byte, binary-sum}
+use Rattle.adder.proofs.Laws.{arithmetic, arithmetic-byte, binary-sum}
 use Rattle.decimal.proofs.Places.{halves, carries}
 
 -- the sum of two bytes, and its carry
@@ -87,7 +87,7 @@ module _ (k : ℕ) (small : k < 255) where
   one-less = omega (arith, arithmetic-byte false (suc k) 255 0, sum-is (suc k) 255 false (omega arith) (omega arith), one-lt (arithmetic false (suc k) 255 0 .ac))
 
   pub none-left : arithmetic false (suc k) 255 0 .z0 ≡ eqb k 0
-  unfolding arithmetic
+  unfolding summed resultOf
   none-left = ap (λ (n : ℕ). eqb n 0) one-less
 
 pub some-left : (k : ℕ) → eqb (suc k) 0 ≡ false
@@ -107,7 +107,7 @@ copied u v hu hv = λ i. (same u hu i, same v hv i)
 
 -- a carry put into H from S3
 pub kept-carry : (s : ℕ) (c : Bool) → carries (arithmetic false 0 0 (one (bit (withBit s 3 c) 3)) .result) ≡ c
-unfolding arithmetic
+unfolding summed resultOf
 kept-carry s c = ap (λ (b : Bool). carries (arithmetic false 0 0 (one b) .result)) (bit-with s 3 c) ∙ by c
   where
     by : (c : Bool) → carries (arithmetic false 0 0 (one c) .result) ≡ c

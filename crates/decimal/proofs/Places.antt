@@ -9,7 +9,7 @@ use lib.Dec.{T, eqb}
 use Rattle.digits.specs.Bits.{one, bit, withBit}
 use Rattle.digits.specs.Table.{among}
 use Rattle.digits.proofs.Bits.{bit-with, bit-other}
-use Rattle.adder.specs.Adder.{arithmetic}
+use Rattle.adder.proofs.Laws.{arithmetic}
 use Rattle.machine.specs.Cycle.{stops}
 use Rattle.machine.specs.declared.State.{State}
 use Rattle.run.proofs.Goes.{Machine, machine, Halts, Goes, join, Right, goes-right}

@@ -9,7 +9,8 @@ use lib.ListN.{length, getD, set}
 use Rattle.digits.specs.Bits.{one, bit, withBit}
 use Rattle.digits.proofs.Bits.{bit-with}
 use Rattle.word.specs.Word.{packed, inWidth}
-use Rattle.adder.specs.Adder.{arithmetic, sumOf, entering}
+use Rattle.adder.specs.Adder.{sumOf, entering}
+use Rattle.adder.proofs.Laws.{arithmetic}
 use Rattle.adder.specs.declared.Sum.{Sum}
 use Rattle.machine.specs.Sources.{entered, sumIn}
 use Rattle.machine.specs.Branch.{nextOf}

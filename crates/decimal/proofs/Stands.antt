@@ -13,9 +13,9 @@ use Rattle.digits.specs.Bits.{one}
 use Rattle.digits.specs.Digits.{bothDecimal, val}
 use Rattle.digits.proofs.Bits.{one-lt}
 use Rattle.digits.proofs.Truth.{either-way}
-use Rattle.adder.specs.Adder.{arithmetic, entering}
+use Rattle.adder.specs.Adder.{entering}
 use Rattle.adder.specs.declared.Sum.{Sum}
-use Rattle.adder.proofs.Laws.{decimal-sum, decimal-difference, both-at-most}
+use Rattle.adder.proofs.Laws.{arithmetic, decimal-sum, decimal-difference, both-at-most}
 use Rattle.decimal.specs.Value.{value}
 use Rattle.decimal.proofs.Places.{Marks}
 use Rattle.decimal.proofs.Pass2.{Summing, Passing, Fits, fits-on, onward, summed, pass}

@@ -55,6 +55,8 @@ made (i, j) (u, v) l t wx latch local arriving byte s =
       «local_selected» = local;
       arriving = arriving;
       «arriving_byte» = byte;
+      «digit_carry» = s .«digit_carry»;
+      invalid = s .invalid;
     }
 
 -- at another address

@@ -58,6 +58,8 @@ startWith a b n status =
       «local_selected» = false;
       arriving = false;
       «arriving_byte» = 0;
+      «digit_carry» = false;
+      invalid = false;
     }
 
 -- the carry in S3

@@ -114,6 +114,8 @@ pub fn start_with(a: u16, b: u16, length: u8, status: u8) -> State
         local_selected: false,
         arriving: false,
         arriving_byte: 0,
+        digit_carry: false,
+        invalid: false,
     }
 }
 

@@ -15,7 +15,7 @@ use Rattle.digits.specs.Table.{Each}
 use Rattle.digits.proofs.Lists.{pieces-at, map-at, placed-step}
 use Rattle.digits.proofs.Puts.{Put, put-room}
 use Rattle.text.specs.Text.{hexadecimal}
-use Rattle.channels.specs.Channels.{channels}
+use Rattle.channels.specs.Channels.{channels, recordLength}
 use Rattle.lamps.specs.Columns.{digitCounts, byteCells}
 use Rattle.lamps.specs.Picture.{namesOf, inPlace}
 use Rattle.lamps.specs.Walk.{rowName, alone, hexBytes, walkLine, lampsOf, walkRow, pairs}
@@ -35,11 +35,11 @@ one-lit digits = lit-of (eqb digits 1)
 abbrev pub names : List ℕ
 names = joined (map inPlace (namesOf channels))
 
-pub name-at : (row : ℕ) → row < 22 → take 9 (drop (row * 9) names) ≡ rowName row
+pub name-at : (row : ℕ) → row < recordLength → take 9 (drop (row * 9) names) ≡ rowName row
 unfolding rowName
-name-at row h = sym (pieces-at 9 22 names row h) ∙ map-at inPlace (namesOf channels) row [] [] h
+name-at row h = sym (pieces-at 9 recordLength names row h) ∙ map-at inPlace (namesOf channels) row [] [] h
 
-pub length-name : (row : ℕ) → row < 22 → length (rowName row) ≡ 9
+pub length-name : (row : ℕ) → row < recordLength → length (rowName row) ≡ 9
 length-name row h = ap length (sym (name-at row h)) ∙ rw (length-take 9 (drop (row * 9) names), length-drop (row * 9) names) (omega arith)
 
 -- ---- a record in hexadecimal
@@ -54,21 +54,24 @@ unfolding hexBytes
 length-hex [] = refl
 length-hex (x ∷ xs) = ap (λ (n : ℕ). suc (suc (suc n))) (length-hex xs) ∙ omega arith
 
-pub length-alone : (row x : ℕ) → length (alone row x) ≡ 22
-length-alone row x = length-set (replicate 22 0) row x
+pub length-alone : (row x : ℕ) → length (alone row x) ≡ recordLength
+length-alone row x = length-set (replicate recordLength 0) row x
 
 -- the record that has one byte alone, as the code lends it
-pub alone-cells : (row x : ℕ) → byteCells (replicate 22 1) (replicate 22 2) (take 22 (alone row x)) ≡ hexBytes (alone row x)
+pub alone-cells : (row x : ℕ) → byteCells (replicate recordLength 1) (replicate recordLength 2) (take recordLength (alone row x)) ≡ hexBytes (alone row x)
 alone-cells row x =
-    rw (take-all 22 (alone row x) (omega (arith, length-alone row x)))
+    rw (take-all recordLength (alone row x) (omega (arith, length-alone row x)))
     (subst (λ (n : ℕ). byteCells (replicate n 1) (replicate n 2) (alone row x) ≡ hexBytes (alone row x)) (length-alone row x) (hex-cells (alone row x)))
 
-pub length-record : (row x : ℕ) → length (hexBytes (alone row x)) ≡ 66
+pub length-record : (row x : ℕ) → length (hexBytes (alone row x)) ≡ 3 * recordLength
 length-record row x = length-hex (alone row x) ∙ rw (length-alone row x)
 
 -- ---- lines
 
-pub length-line : (row : ℕ) (l : ℕ × ℕ) → row < 22 → length (walkLine row l) ≡ 77
+abbrev pub lineLength : ℕ
+lineLength = 11 + 3 * recordLength
+
+pub length-line : (row : ℕ) (l : ℕ × ℕ) → row < recordLength → length (walkLine row l) ≡ lineLength
 unfolding walkLine
 length-line row (n, x) h =
     length-append (rowName row) (n ∷ (hexBytes (alone row x) ++ (10 ∷ [])))
@@ -77,11 +80,11 @@ length-line row (n, x) h =
 abbrev pub linesOf : ℕ → List (ℕ × ℕ) → List ℕ
 linesOf row ls = joined (map (walkLine row) ls)
 
-pub length-lines : (row : ℕ) (ls : List (ℕ × ℕ)) → row < 22 → length (linesOf row ls) ≡ 77 * length ls
+pub length-lines : (row : ℕ) (ls : List (ℕ × ℕ)) → row < recordLength → length (linesOf row ls) ≡ lineLength * length ls
 length-lines row [] h = refl
 length-lines row (l ∷ ls) h = length-append (walkLine row l) (linesOf row ls) ∙ rw (length-line row l h, length-lines row ls h) (omega arith)
 
-pub length-row : (row d : ℕ) → row < 22 → length (walkRow row d) ≡ length (walkRow 0 d)
+pub length-row : (row d : ℕ) → row < recordLength → length (walkRow row d) ≡ length (walkRow 0 d)
 length-row row d h = length-lines row (lampsOf d) h ∙ sym (length-lines 0 (lampsOf d) (omega arith))
 
 -- what is left of a row
@@ -106,23 +109,26 @@ length-pairs (n ∷ ns) (x ∷ xs) e = ap suc (length-pairs ns xs (omega arith))
 abbrev pub rowsLeft : ℕ → List ℕ
 rowsLeft row = inTurn walkRow (0 + row) (drop row (digitCounts channels))
 
-pub row-step : (row : ℕ) → row < 22 → rowsLeft row ≡ walkRow row (getD (digitCounts channels) row 0) ++ rowsLeft (row + 1)
+pub row-step : (row : ℕ) → row < recordLength → rowsLeft row ≡ walkRow row (getD (digitCounts channels) row 0) ++ rowsLeft (row + 1)
 row-step row h = rw (placed-step walkRow (digitCounts channels) 0 0 row h, zero-add row)
 
 abbrev lampCount : List ℕ → ℕ
 lampCount [] = 0
 lampCount (d ∷ ds) = length (lampsOf d) + lampCount ds
 
-length-from : (row : ℕ) (ds : List ℕ) → row + length ds ≤ 22 → length (inTurn walkRow row ds) ≡ 77 * lampCount ds
+length-from : (row : ℕ) (ds : List ℕ) → row + length ds ≤ recordLength → length (inTurn walkRow row ds) ≡ lineLength * lampCount ds
 length-from row [] h = refl
 length-from row (d ∷ ds) h =
     length-append (walkRow row d) _ ∙ rw (length-lines row (lampsOf d) (omega arith), length-from (suc row) ds (omega arith)) (omega arith)
 
-pub length-walk : length (rowsLeft 0) ≡ 10318
+abbrev pub walkLength : ℕ
+walkLength = lineLength * lampCount (digitCounts channels)
+
+pub length-walk : length (rowsLeft 0) ≡ walkLength
 length-walk = length-from 0 (digitCounts channels) (omega arith)
 
 -- there is room for the next row
-pub row-room : {old w : List ℕ} {at : ℕ} (row : ℕ) → row < 22 → 10318 ≤ length old → Put (rowsLeft 0) old (rowsLeft row) w at → at + length (walkRow 0 (getD (digitCounts channels) row 0)) ≤ length w
+pub row-room : {old w : List ℕ} {at : ℕ} (row : ℕ) → row < recordLength → walkLength ≤ length old → Put (rowsLeft 0) old (rowsLeft row) w at → at + length (walkRow 0 (getD (digitCounts channels) row 0)) ≤ length w
 row-room row h room p =
     let d = getD (digitCounts channels) row 0 in
     let r = put-room p (walkRow row d) (rowsLeft (row + 1)) (row-step row h) in

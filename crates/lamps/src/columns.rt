@@ -4,7 +4,6 @@ ghost use Prim.Native.Nat.{_+_, _≤_};
 ghost use lib.ListN.{length};
 ghost use Rattle.digits.specs.Lent.{overAt};
 ghost use Rattle.channels.specs.Channels.{channels, workChannels};
-ghost use Rattle.text.specs.Text.{hexadecimal};
 ghost use Rattle.lamps.specs.Columns.{cell, byteCells, cells};
 use adder::Work;
 use machine::State;
@@ -53,7 +52,7 @@ pub(crate) fn put_cells(spaces: &[u8], digits: &[u8], bytes: &[u8], out: &mut [u
 }
 
 // The spaces before each byte of a state's record, and its digits.
-const SPACES: [u8; 22] = [
+const SPACES: [u8; 24] = [
     1,
     1,
     1,
@@ -76,9 +75,11 @@ const SPACES: [u8; 22] = [
     2,
     2,
     1,
+    2,
+    3,
 ];
 
-pub(crate) const DIGITS: [u8; 22] = [
+pub(crate) const DIGITS: [u8; 24] = [
     2,
     2,
     2,
@@ -101,6 +102,8 @@ pub(crate) const DIGITS: [u8; 22] = [
     1,
     1,
     2,
+    1,
+    1,
 ];
 
 // The same of the work's.
@@ -109,18 +112,18 @@ const WORK_SPACES: [u8; 8] = [1, 1, 1, 1, 1, 2, 5, 4];
 pub(crate) const WORK_DIGITS: [u8; 8] = [2, 2, 2, 2, 2, 1, 2, 2];
 
 // The columns of a state.
-pub(crate) fn state_cells(s: State) -> [u8; 66]
+pub(crate) fn state_cells(s: State) -> [u8; 73]
     ensures { λ r. ⌜ r ≡ cells channels s ⌝ }
 {
     let record = channels::saved(s);
     let spaces = SPACES;
     let digits = DIGITS;
-    let mut out = [b' '; 66];
+    let mut out = [b' '; 73];
     put_cells(
-        &spaces[0..22],
-        &digits[0..22],
-        &record[0..22],
-        &mut out[0..66],
+        &spaces[0..24],
+        &digits[0..24],
+        &record[0..24],
+        &mut out[0..73],
     );
     out
 }

@@ -78,8 +78,8 @@ fn put_block(names: &[u8], digits: &[u8], bytes: &[u8], room: &mut [u8], at: usi
 
 // Puts the rows of a state under their names, eight side by side.
 fn put_state(s: State, room: &mut [u8], at: usize) -> usize
-    requires { ⌜ at + 402 ≤ length (now room) ⌝ }
-    ensures { λ r. ⌜ (r ≡ at + 402) × (now (room .exit) ≡ overAt at (stateBlocks s) (now (room .entry))) ⌝ }
+    requires { ⌜ at + 438 ≤ length (now room) ⌝ }
+    ensures { λ r. ⌜ (r ≡ at + 438) × (now (room .exit) ≡ overAt at (stateBlocks s) (now (room .entry))) ⌝ }
 {
     let digits = DIGITS;
     let bytes = channels::saved(s);
@@ -98,9 +98,9 @@ fn put_state(s: State, room: &mut [u8], at: usize) -> usize
         next,
     );
     put_block(
-        b"      1BC       Z0    ALLOW    LOCAL ARRIVING     BYTE",
-        &digits[16..22],
-        &bytes[16..22],
+        b"      1BC       Z0    ALLOW    LOCAL ARRIVING     BYTE DIGIT-CY  INVALID",
+        &digits[16..24],
+        &bytes[16..24],
         room,
         next,
     )
@@ -135,7 +135,7 @@ fn title(cycle: u32, at: u16) -> [u8; 20]
 pub fn picture(cycle: u32, at: u16, s: State, w: Work, room: &mut [u8]) -> Written
     ensures { λ r. ⌜ (r ≡ putOf (pictureOf cycle at s w) (length (now (room .entry)))) × (now (room .exit) ≡ roomAfter (pictureOf cycle at s w) (now (room .entry))) ⌝ }
 {
-    if room.len() < 569 {
+    if room.len() < 605 {
         return Written::Refused(19);
     }
     let next = after(&title(cycle, at), room, 0);
@@ -148,7 +148,7 @@ pub fn picture(cycle: u32, at: u16, s: State, w: Work, room: &mut [u8]) -> Writt
 pub fn start_picture(s: State, room: &mut [u8]) -> Written
     ensures { λ r. ⌜ (r ≡ putOf (startPictureOf s) (length (now (room .entry)))) × (now (room .exit) ≡ roomAfter (startPictureOf s) (now (room .entry))) ⌝ }
 {
-    if room.len() < 416 {
+    if room.len() < 452 {
         return Written::Refused(19);
     }
     let next = after(b"CYCLE      0\n", room, 0);

@@ -4,6 +4,7 @@ ghost use mathlib.Core.List.{map};
 ghost use Prim.Native.Nat.{_*_, _<_};
 ghost use lib.ListN.{length};
 ghost use Rattle.digits.specs.Lists.{joined};
+ghost use Rattle.channels.specs.Channels.{recordLength};
 ghost use Rattle.text.specs.Text.{putOf, roomAfter};
 ghost use Rattle.lamps.specs.Walk.{rowName, pairs, walkLine, walkRow, walkOf};
 use crate::columns::DIGITS;
@@ -13,11 +14,11 @@ use text::Written;
 
 // The name of a row of lamps, at the right end of nine columns.
 fn name(row: usize) -> [u8; 9]
-    requires { ⌜ row < 22 ⌝ }
+    requires { ⌜ row < recordLength ⌝ }
     ensures { λ r. ⌜ r ≡ rowName row ⌝ }
 {
     let names =
-        *b"        I        J        U        V        L        T        D        R        S        G        H        M        N        W        X       AC      1BC       Z0    ALLOW    LOCAL ARRIVING     BYTE";
+        *b"        I        J        U        V        L        T        D        R        S        G        H        M        N        W        X       AC      1BC       Z0    ALLOW    LOCAL ARRIVING     BYTE DIGIT-CY  INVALID";
     let from = row * 9;
     let end = from + 9;
     let mut name = [b' '; 9];
@@ -27,33 +28,33 @@ fn name(row: usize) -> [u8; 9]
 
 // Puts a lamp: its row's name, its number in the row, and the record that lights it alone.
 fn put_lamp(row: usize, number: u8, byte: u8, out: &mut [u8])
-    requires { ⌜ (row < 22) × (length (now out) ≡ 77) ⌝ }
+    requires { ⌜ (row < recordLength) × (length (now out) ≡ 83) ⌝ }
     ensures { λ _. ⌜ now (out .exit) ≡ walkLine row (number, byte) ⌝ }
 {
-    let mut lit = [0u8; 22];
+    let mut lit = [0u8; 24];
     lit[row] = byte;
-    let spaces = [1u8; 22];
-    let digits = [2u8; 22];
+    let spaces = [1u8; 24];
+    let digits = [2u8; 24];
     let at = after(&name(row), out, 0);
     after(&[number], out, at);
     put_cells(
-        &spaces[0..22],
-        &digits[0..22],
-        &lit[0..22],
-        &mut out[10..76],
+        &spaces[0..24],
+        &digits[0..24],
+        &lit[0..24],
+        &mut out[10..82],
     );
-    after(b"\n", out, 76);
+    after(b"\n", out, 82);
 }
 
 // Puts some lamps of a row, by their numbers and the bytes that light them.
 fn put_lamps(row: usize, numbers: &[u8], bytes: &[u8], out: &mut [u8])
-    requires { ⌜ (row < 22) × ((length (now numbers) ≡ length (now bytes)) × (length (now out) ≡ 77 * length (now bytes))) ⌝ }
+    requires { ⌜ (row < recordLength) × ((length (now numbers) ≡ length (now bytes)) × (length (now out) ≡ 83 * length (now bytes))) ⌝ }
     ensures { λ _. ⌜ now (out .exit) ≡ joined (map (walkLine row) (pairs (now (numbers .entry)) (now (bytes .entry)))) ⌝ }
 {
     let mut i: usize = 0;
     while i < bytes.len() {
-        let at = 77 * i;
-        let end = at + 77;
+        let at = 83 * i;
+        let end = at + 83;
         put_lamp(row, numbers[i], bytes[i], &mut out[at..end]);
         i += 1;
     }
@@ -63,12 +64,12 @@ fn put_lamps(row: usize, numbers: &[u8], bytes: &[u8], out: &mut [u8])
 fn row_size(digits: u8) -> usize
     ensures { λ r. ⌜ r ≡ length (walkRow 0 digits) ⌝ }
 {
-    if digits == 1 { 77 } else { 616 }
+    if digits == 1 { 83 } else { 664 }
 }
 
 // Puts all lamps of a row.
 fn put_row(row: usize, digits: u8, out: &mut [u8])
-    requires { ⌜ (row < 22) × (length (now out) ≡ length (walkRow 0 digits)) ⌝ }
+    requires { ⌜ (row < recordLength) × (length (now out) ≡ length (walkRow 0 digits)) ⌝ }
     ensures { λ _. ⌜ now (out .exit) ≡ walkRow row digits ⌝ }
 {
     if digits == 1 {
@@ -82,13 +83,13 @@ fn put_row(row: usize, digits: u8, out: &mut [u8])
 pub fn walk(room: &mut [u8]) -> Written
     ensures { λ r. ⌜ (r ≡ putOf walkOf (length (now (room .entry)))) × (now (room .exit) ≡ roomAfter walkOf (now (room .entry))) ⌝ }
 {
-    if room.len() < 10318 {
+    if room.len() < 11288 {
         return Written::Refused(19);
     }
     let digits = DIGITS;
     let mut at: usize = 0;
     let mut row: usize = 0;
-    while row < 22 {
+    while row < 24 {
         let end = at + row_size(digits[row]);
         put_row(row, digits[row], &mut room[at..end]);
         at = end;

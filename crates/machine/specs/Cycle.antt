@@ -86,6 +86,9 @@ after f z a fetched s =
       «local_selected» = a .local;
       arriving = a .fetches;
       «arriving_byte» = fetched;
+      -- "the state must keep them as latches for the display"
+      «digit_carry» = z .«digit_carry»;
+      invalid = z .invalid;
     }
 
 -- a to e: what the fields do

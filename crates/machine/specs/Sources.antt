@@ -39,6 +39,8 @@ entered f s =
       «local_selected» = s .«local_selected»;
       arriving = false;
       «arriving_byte» = 0;
+      «digit_carry» = s .«digit_carry»;
+      invalid = s .invalid;
     }
 
 -- "A by CA: 4 S, 5 H, 7 R, 8 D, 9 L, 10 G, 11 T, 12 V, 13 U, 14 J, 15 I"

@@ -38,6 +38,8 @@ pub struct State {
     pub local_selected: bool,
     pub arriving: bool,
     pub arriving_byte: u8,
+    pub digit_carry: bool,
+    pub invalid: bool,
 }
 
 // d. The address, the kind and the latch after the word, and what storage is to do.
@@ -90,6 +92,8 @@ fn after(f: Fields, z: Sum, a: Access, fetched: u8, s: State) -> State
         local_selected: a.local,
         arriving: a.fetches,
         arriving_byte: fetched,
+        digit_carry: z.digit_carry,
+        invalid: z.invalid,
     }
 }
 

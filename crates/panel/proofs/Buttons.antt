@@ -26,7 +26,7 @@ use Rattle.run.proofs.Goes.{Machine, machine, goes-none}
 use Rattle.run.proofs.Promises.{run-goes, count-within, Small, run-small}
 use Rattle.run.proofs.Divided.{divided, once, one-cycle}
 use Rattle.run.proofs.Quiet.{quiet-keeps}
-use Rattle.channels.specs.Channels.{saved, loaded}
+use Rattle.channels.specs.Channels.{recordLength, saved, loaded}
 use Rattle.channels.proofs.Trips.{state-back}
 use Rattle.panel.specs.Answers.{RAN, REFUSED, SPENT, coded, counted, Called, called, short, cycled, cycledBy, cycleCall, endingCode, recordAfter, ranBy, runCall}
 use Rattle.panel.proofs.Calls.{run-short, run-else, by-record}
@@ -48,7 +48,7 @@ code-in code n h = omega arith
 
 -- ---- the record
 
-length-saved : (s : State) → length (saved s) ≡ 22
+length-saved : (s : State) → length (saved s) ≡ recordLength
 unfolding saved
 length-saved s = refl
 
@@ -72,10 +72,10 @@ two-records (suc n) (suc k) s t state same =
     ∙ sym (written (suc n + suc k) t state (λ z. omega arith))
 
 -- it stays as long as it must be
-still-long : (n : ℕ) (s : State) (state : List ℕ) → 22 ≤ length state → 22 ≤ length (recordAfter n s state)
+still-long : (n : ℕ) (s : State) (state : List ℕ) → recordLength ≤ length state → recordLength ≤ length (recordAfter n s state)
 still-long n s state long = by (eqb n 0)
   where
-    by : (none : Bool) → 22 ≤ length (cond none state (over (saved s) state))
+    by : (none : Bool) → recordLength ≤ length (cond none state (over (saved s) state))
     by true = long
     by false = let n = length-saved s in rw length-append (omega arith)
 
@@ -158,12 +158,12 @@ calls-divide a b store c most =
     w : Outcome Finished
     w = runOf (a + b) store main local s
 
-    refused : length state < 22 → Divide a b store c (short main local state) (pressRun (a + b) store c)
+    refused : length state < recordLength → Divide a b store c (short main local state) (pressRun (a + b) store c)
     refused h =
         let first : Called = short main local state in
         known a b store c first first first (run-short store main local state b _ _ h refl refl) (run-short store main local state (a + b) _ _ h refl refl) (refused-alike b first refl)
 
-    ran : 22 ≤ length state → Divide a b store c (ranBy r state) (pressRun (a + b) store c)
+    ran : recordLength ≤ length state → Divide a b store c (ranBy r state) (pressRun (a + b) store c)
     ran h =
         let same = loaded-after a store main local state in
         let goes = run-goes b store (r .main) (r .local) (loaded left) in
@@ -191,7 +191,7 @@ as-run store (C.Refused t number field) main local state = rw (ne-eqb (coded REF
 
 press-is-run : (store main local state : List ℕ) → runCall store main local state 1 ≡ shown (cycleCall store main local state)
 unfolding runCall cycleCall
-press-is-run store main local state = by (ltb (length state) 22)
+press-is-run store main local state = by (ltb (length state) recordLength)
   where
     o : Outcome Cycled
     o = cycleOf store main local (loaded state)
@@ -214,7 +214,7 @@ module _ (store main local state : List ℕ) where
 
   press-told : Told (cycleCall store main local state .number)
   unfolding cycleCall
-  press-told = by (ltb (length state) 22)
+  press-told = by (ltb (length state) recordLength)
     where
       o : Outcome Cycled
       o = cycleOf store main local (loaded state)
@@ -267,7 +267,7 @@ no-press store main local state = run-keeps store main local state 0 (by-record 
     r : Outcome Finished
     r = runOf 0 store main local (loaded state)
 
-    ran : 22 ≤ length state → ranBy r state .number < 2 ^ 32
+    ran : recordLength ≤ length state → ranBy r state .number < 2 ^ 32
     ran h =
         let code = code-small (r .answer .ending) (run-small 0 store main local (loaded state)) in
         let none = count-within 0 store main local (loaded state) in

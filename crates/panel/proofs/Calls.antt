@@ -25,7 +25,7 @@ use Rattle.digits.specs.Lent.{over}
 use Rattle.signed.specs.Signed.{readSigned}
 use Rattle.signed.specs.declared.ReadOut.the-variants as R
 use Rattle.signed.proofs.Trips.{read-whole}
-use Rattle.channels.specs.Channels.{loaded}
+use Rattle.channels.specs.Channels.{recordLength, loaded}
 use Rattle.panel.specs.Fields.{fieldsIn}
 use Rattle.panel.specs.Answers.{REFUSED, coded, counted, answered, answerApart, takeApartCall, answerPacked, packCall, Called, called, short, endingCode, recordAfter, ranBy, runCall, answerNext, nextSumCall, addedCode, addedBy, readSignedCall}
 
@@ -63,24 +63,24 @@ front (x ∷ l) w h = refl
 -- ---- a run
 
 module _ (store main local state : List ℕ) (budget : ℕ) where
-  pub run-short : (k r : ℕ) → length state < 22 → k ≡ coded REFUSED 19 0 → r ≡ counted k 0 → called r main local state ≡ runCall store main local state budget
+  pub run-short : (k r : ℕ) → length state < recordLength → k ≡ coded REFUSED 19 0 → r ≡ counted k 0 → called r main local state ≡ runCall store main local state budget
   unfolding runCall
-  run-short k r h e q = rw (lt-ltb (length state) 22 h, q, e)
+  run-short k r h e q = rw (lt-ltb (length state) recordLength h, q, e)
 
-  pub run-else : 22 ≤ length state → ranBy (runOf budget store main local (loaded state)) state ≡ runCall store main local state budget
+  pub run-else : recordLength ≤ length state → ranBy (runOf budget store main local (loaded state)) state ≡ runCall store main local state budget
   unfolding runCall
-  run-else h = rw (le-ltb (length state) 22 h)
+  run-else h = rw (le-ltb (length state) recordLength h)
 
   -- a call is refused by 19, or is its run
-  pub by-record : (P : Called → Type 0) → (length state < 22 → P (short main local state)) → (22 ≤ length state → P (ranBy (runOf budget store main local (loaded state)) state))
+  pub by-record : (P : Called → Type 0) → (length state < recordLength → P (short main local state)) → (recordLength ≤ length state → P (ranBy (runOf budget store main local (loaded state)) state))
       → P (runCall store main local state budget)
-  by-record P refused ran = by (ltb (length state) 22) refl
+  by-record P refused ran = by (ltb (length state) recordLength) refl
     where
-      by : (b : Bool) → ltb (length state) 22 ≡ b → P (runCall store main local state budget)
-      by true e = let h = ltb-true (length state) 22 e in subst P (run-short _ _ h refl refl) (refused h)
-      by false e = let h = ltb-false (length state) 22 e in subst P (run-else h) (ran h)
+      by : (b : Bool) → ltb (length state) recordLength ≡ b → P (runCall store main local state budget)
+      by true e = let h = ltb-true (length state) recordLength e in subst P (run-short _ _ h refl refl) (refused h)
+      by false e = let h = ltb-false (length state) recordLength e in subst P (run-else h) (ran h)
 
-  pub run-any : (m l out : List ℕ) (s : State) (f : Finished) (k r : ℕ) → 22 ≤ length state → s ≡ loaded state → outcome f m l ≡ runOf budget store main local s
+  pub run-any : (m l out : List ℕ) (s : State) (f : Finished) (k r : ℕ) → recordLength ≤ length state → s ≡ loaded state → outcome f m l ≡ runOf budget store main local s
       → out ≡ recordAfter (f .count) (f .state) state → k ≡ endingCode (f .ending) → r ≡ counted k (f .count) → called r m l out ≡ runCall store main local state budget
   run-any m l out s f k r h in-state o p e q =
       (λ i. called ((q ∙ ap (λ (x : ℕ). counted x (f .count)) e) i) m l (p i)) ∙ ap (λ (x : Outcome Finished). ranBy x state) (o ∙ ap (runOf budget store main local) in-state) ∙ run-else h
@@ -88,11 +88,11 @@ module _ (store main local state : List ℕ) (budget : ℕ) where
 -- ---- the work of the next word
 
 module _ (store state work : List ℕ) where
-  pub next-short : ltb (length state) 22 || ltb (length work) 8 ≡ true → answered 19 work ≡ nextSumCall store state work
+  pub next-short : ltb (length state) recordLength || ltb (length work) 8 ≡ true → answered 19 work ≡ nextSumCall store state work
   unfolding nextSumCall
   next-short h = rw h
 
-  pub next-is : ltb (length state) 22 || ltb (length work) 8 ≡ false → (s : State) (n x : NextSum) → s ≡ loaded state → n ≡ nextSumOf store s → n ≡ x
+  pub next-is : ltb (length state) recordLength || ltb (length work) 8 ≡ false → (s : State) (n x : NextSum) → s ≡ loaded state → n ≡ nextSumOf store s → n ≡ x
       → answerNext x work ≡ nextSumCall store state work
   unfolding nextSumCall
   next-is h s n x in-state is e = ap (λ (y : NextSum). answerNext y work) (sym e ∙ is ∙ ap (nextSumOf store) in-state) ∙ rw h

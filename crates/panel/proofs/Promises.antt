@@ -20,7 +20,7 @@ use Rattle.run.specs.Run.{runOf}
 use Rattle.run.specs.declared.Finished.{Finished}
 use Rattle.run.proofs.Goes.{Machine, goes-none}
 use Rattle.run.proofs.Promises.{run-goes}
-use Rattle.channels.specs.Channels.{loaded}
+use Rattle.channels.specs.Channels.{recordLength, loaded}
 use Rattle.panel.specs.Answers.{RAN, coded, STOPPED, REFUSED, answered, Called, called, short, cycled, cycleCall, ranBy, runCall}
 use Rattle.panel.proofs.Calls.{by-record}
 use Rattle.panel.proofs.panel_take_apart.Reads as take-apart
@@ -61,7 +61,7 @@ module _ (store main local state : List ℕ) where
   -- a cycle that did not run
   pub cycle-keeps : (cycleCall store main local state .number ≡ RAN → ⊥) → Untouched main local state (cycleCall store main local state)
   unfolding cycleCall
-  cycle-keeps = by (ltb (length state) 22) (cycled (cycleOf store main local (loaded state) .answer) (cycleOf store main local (loaded state) .main) (cycleOf store main local (loaded state) .local) state) (cycle-same (cycleOf store main local (loaded state) .answer) refl)
+  cycle-keeps = by (ltb (length state) recordLength) (cycled (cycleOf store main local (loaded state) .answer) (cycleOf store main local (loaded state) .main) (cycleOf store main local (loaded state) .local) state) (cycle-same (cycleOf store main local (loaded state) .answer) refl)
     where
       by : (b : Bool) (c : Called) → ((c .number ≡ RAN → ⊥) → Untouched main local state c) → (cond b (short main local state) c .number ≡ RAN → ⊥) → Untouched main local state (cond b (short main local state) c)
       by true c k h = refl
@@ -77,7 +77,7 @@ run-keeps store main local state budget = by-record store main local state budge
     r : Outcome Finished
     r = runOf budget store main local (loaded state)
 
-    ran : 22 ≤ length state → ranBy r state .number < 2 ^ 32 → Untouched main local state (ranBy r state)
+    ran : recordLength ≤ length state → ranBy r state .number < 2 ^ 32 → Untouched main local state (ranBy r state)
     ran long h =
         let e : r .answer .count ≡ 0 = omega arith in
         let x = goes-none (run-goes budget store main local (loaded state)) e in

@@ -7,7 +7,7 @@ ghost use lib.ListN.{length};
 ghost use Rattle.machine.specs.Cycle.{outcome};
 ghost use Rattle.panel.specs.Answers.{coded, counted, answered, takeApartCall, packCall, called, cycleCall, endingCode, recordAfter, runCall, nextSumCall, started, startCall, startSignedCall, handed, shippedCall, shippedSignedCall, addedCode, addDecimalCall, addSignedCall, subSignedCall, readDeckCall, writeDeckCall, readSignedCall, writeSignedCall};
 ghost use Rattle.digits.specs.Lent.{over};
-ghost use Rattle.channels.specs.Channels.{saved, worked};
+ghost use Rattle.channels.specs.Channels.{recordLength, saved, worked};
 use adder::Work;
 use decimal::Added;
 use deck::Reading;
@@ -34,7 +34,7 @@ const SUMMED: u8 = 4;
 const BAD_DIGIT: u8 = 5;
 
 // PANEL_STATE and PANEL_WORK, the records' lengths, and how many fields a word is taken apart into.
-const STATE: usize = 22;
+const STATE: usize = 24;
 
 const WORK: usize = 8;
 
@@ -90,11 +90,11 @@ pub extern "C" fn panel_pack(fields: &[u8], address: u32, word: &mut [u64]) -> u
 
 // Puts the record of a state.
 fn save(s: State, state: &mut [u8])
-    requires { ⌜ 22 ≤ length (now state) ⌝ }
+    requires { ⌜ recordLength ≤ length (now state) ⌝ }
     ensures { λ _. ⌜ now (state .exit) ≡ over (saved s) (now (state .entry)) ⌝ }
 {
     let shown = channels::saved(s);
-    digits::copy(&shown[0..22], state);
+    digits::copy(&shown[0..STATE], state);
 }
 
 // One cycle, as a run of one, so that a cycle has one caller. The record is written by a cycle that ran, and by nothing else.
@@ -126,7 +126,7 @@ fn ending_code(ending: Ending) -> u32
 
 // The record after so many cycles: where none ran, nothing is written.
 fn save_after(count: u32, s: State, state: &mut [u8])
-    requires { ⌜ 22 ≤ length (now state) ⌝ }
+    requires { ⌜ recordLength ≤ length (now state) ⌝ }
     ensures { λ _. ⌜ now (state .exit) ≡ recordAfter count s (now (state .entry)) ⌝ }
 {
     if count == 0 {

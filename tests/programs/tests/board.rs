@@ -10,6 +10,7 @@ use programs::{
 };
 use second::board::{self, in_words, View};
 use second::deck::{words_of, BLOCK, LONGEST};
+use second::panel::STATE;
 use second::random::Random;
 use second::run::Ending;
 use second::shipped;
@@ -226,7 +227,8 @@ fn the_state_before_the_first_cycle_is_shown() {
         (&["sp", "1", "12345678", "TO=0"], "05", "80"),
     ] {
         let line = board(arguments).text().lines().nth(1).map(str::to_owned);
-        let expected = format!("      0 --- 01 00 02 00 {length} 00 00 00 {s} 00 00 00 00 0000  0   0  0  0  0  0 00");
+        let expected =
+            format!("      0 --- 01 00 02 00 {length} 00 00 00 {s} 00 00 00 00 0000  0   0  0  0  0  0 00  0   0");
         assert_eq!(line, Some(expected));
     }
 }
@@ -558,8 +560,8 @@ CYCLE      1 AT 000
  ........ .*.****. ........ ........ ........ ........ ........ ........
         S        G        H        M        N        W        X       AC
  ........ ........ ........ ........ ........ ........ .......*        .
-      1BC       Z0    ALLOW    LOCAL ARRIVING     BYTE
-        .        .        .        .        . ........
+      1BC       Z0    ALLOW    LOCAL ARRIVING     BYTE DIGIT-CY  INVALID
+        .        .        .        .        . ........        .        .
         A  GATED-A        B  GATED-B ENTERS-B CARRY-IN   BEFORE    AFTER
  .*.***.* .*.***.* ...*...* .......* .......*        . .*.****. .*.****.
 
@@ -576,13 +578,13 @@ fn the_walk_lights_each_lamp_alone() {
     let mut lamps = Vec::new();
     for line in text.lines() {
         let record: Vec<u8> = line[10..].split_whitespace().map(|byte| u8::from_str_radix(byte, 16).unwrap()).collect();
-        assert_eq!((line.len(), record.len()), (76, 22), "{line}");
+        assert_eq!((line.len(), record.len()), (10 + 3 * STATE, STATE), "{line}");
         assert_eq!(record.iter().map(|byte| byte.count_ones()).sum::<u32>(), 1, "{line}");
         lamps.push((line[..9].trim().to_owned(), record));
     }
     let rows: BTreeSet<&String> = lamps.iter().map(|(name, _)| name).collect();
     let records: BTreeSet<&Vec<u8>> = lamps.iter().map(|(_, record)| record).collect();
-    assert_eq!((rows.len(), records.len(), lamps.len()), (22, 134, 134));
+    assert_eq!((rows.len(), records.len(), lamps.len()), (STATE, 136, 136));
 }
 
 // ---- a million lines
@@ -1095,4 +1097,51 @@ fn a_refused_run_that_is_not_written_is_told_twice() {
 fn what_is_told_needs_no_output() {
     let said = said_to_full("board", &["walk", "x"], &[]);
     assert_eq!((said.err.as_str(), said.status), ("board: argument 2 is one too many\n", Some(1)));
+}
+
+// ---- the pages
+
+/// A page's commands, each with the lines that the page shows below it.
+fn commands_of(page: &str) -> Vec<(String, Vec<String>)> {
+    let text = fs::read_to_string(root().join(page)).expect(page);
+    let (mut commands, mut inside) = (Vec::new(), false);
+    for line in text.lines() {
+        if line.starts_with("```") {
+            inside = line == "```text";
+        } else if let Some(command) = line.strip_prefix("$ ").filter(|_| inside) {
+            commands.push((command.to_owned(), Vec::new()));
+        } else if let Some((_, shown)) = commands.last_mut().filter(|_| inside) {
+            shown.push(line.to_owned());
+        }
+    }
+    commands
+}
+
+/// What is printed is what is shown, where `..` stands for lines that are left out.
+fn is_shown(printed: &[&str], shown: &[&str]) -> bool {
+    match shown {
+        [] => printed.is_empty(),
+        ["..", rest @ ..] => (0..=printed.len()).any(|left_out| is_shown(&printed[left_out..], rest)),
+        [line, rest @ ..] => printed.first() == Some(line) && is_shown(&printed[1..], rest),
+    }
+}
+
+#[test]
+fn the_pages_show_what_is_printed() {
+    let here = folder("pages");
+    file(&here, "add.deck", &deck_of(&shipped::SHIPPED));
+    file(&here, "main", &[0; 1024]);
+    for (page, least) in [("README.md", 3), ("docs/BOARD.md", 15)] {
+        let commands = commands_of(page);
+        let mut tried = 0;
+        for (line, shown) in &commands {
+            let Some(arguments) = line.strip_prefix("./board ") else { continue };
+            let arguments: Vec<&str> = arguments.split(' ').collect();
+            let said = run(command("board", &arguments).current_dir(&here), &[]);
+            let printed = said.text() + &said.err;
+            assert!(is_shown(&printed.lines().collect::<Vec<_>>(), &strs(shown)), "{page}: {line}\n{printed}");
+            tried += 1;
+        }
+        assert!(tried >= least, "{page} shows {tried} commands");
+    }
 }

@@ -11,18 +11,19 @@ use std::process::Command;
 
 /// What examples/panel prints of the word P: one cycle of it from J 5D, and the record that it leaves.
 fn cycle_of_p() -> String {
-    let mut record = [0; 22];
+    let mut record = [0; panel::STATE];
     record[1] = 0x5D;
     let answer = panel::one_cycle(&[common::P], &mut [0; 256], &mut [0; 256], &mut record);
     assert_eq!(answer, 0);
-    let names = "I J U V L T D R S G H M N WX_high WX_low AC 1BC Z0 allow_write local arriving arriving_byte";
+    let names = "I J U V L T D R S G H M N WX_high WX_low AC 1BC Z0 allow_write local arriving arriving_byte \
+                 digit_carry invalid";
     let lines = names.split(' ').zip(record).map(|(name, byte)| format!("{:<13} {byte:02X}\n", name.replace('_', " ")));
     format!("word {:016X}\nkind 0, refusal 0, field 0\n{}", common::P, lines.collect::<String>())
 }
 
 /// What it prints of the shipped words: the cycles that gate A to another byte, or correct their sum, and the sum.
 fn cycles_of_the_sum() -> String {
-    let (mut words, mut record, mut work) = ([0; 21], [0; 22], [0; 8]);
+    let (mut words, mut record, mut work) = ([0; 21], [0; panel::STATE], [0; 8]);
     assert_eq!((panel::shipped(&mut words), panel::start(0x10, 0x20, 1, 1, &mut record)), (21, 0));
     let (mut main, mut local) = ([0; 256], [0; 256]);
     [main[0x10], main[0x20]] = [0x38, 0x47];
@@ -41,7 +42,7 @@ fn cycles_of_the_sum() -> String {
 
 /// What it prints of the two buttons: the cycles of the run alone, and those left of it after seven.
 fn buttons() -> String {
-    let (mut words, mut record) = ([0; 21], [0; 22]);
+    let (mut words, mut record) = ([0; 21], [0; panel::STATE]);
     assert_eq!((panel::shipped(&mut words), panel::start(0x10, 0x20, 1, 1, &mut record)), (21, 0));
     let mut main = [0; 256];
     [main[0x10], main[0x20]] = [0x38, 0x47];
@@ -49,6 +50,15 @@ fn buttons() -> String {
     let (cycles, kind) = (number >> 32, number % 256);
     format!("7 single cycles, then a run of {}: kind {kind}\none run of {cycles}: kind {kind}\n", cycles - 7)
         + "lamps and storage are the same\n"
+}
+
+/// What it prints of word 11, with R and D given: the sum and its two lamps.
+fn six_by_hand(d: u8) -> String {
+    let (mut words, mut record) = ([0; 21], [0; panel::STATE]);
+    assert_eq!((panel::shipped(&mut words), panel::start(0, 0, 1, 0, &mut record)), (21, 0));
+    [record[6], record[7], record[14]] = [d, 0x38, 0x11];
+    assert_eq!(panel::one_cycle(&words, &mut [0; 256], &mut [0; 256], &mut record), 0);
+    format!("38 + {d:02X} = {:02X}, digit carry {}, invalid {}\n", record[7], record[22], record[23])
 }
 
 /// What it prints of signed fields: the number of one, whether that is written as its bytes, and what refuses a bad sign.
@@ -79,7 +89,16 @@ fn with_signs() -> String {
 }
 
 fn shows_the_example(said: &Said) {
-    let text = cycle_of_p() + &cycles_of_the_sum() + &buttons() + &signed_fields() + &with_signs();
+    let text = [
+        cycle_of_p(),
+        cycles_of_the_sum(),
+        buttons(),
+        six_by_hand(0x47),
+        six_by_hand(0xAD),
+        signed_fields(),
+        with_signs(),
+    ]
+    .concat();
     assert_eq!((said.text(), said.status), (text, Some(0)), "{}", said.err);
 }
 

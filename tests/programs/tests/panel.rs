@@ -7,9 +7,10 @@ mod common;
 use common::{any_word, chosen_numbers, each_occurs, lent, lent_to_go_on, one_of, Bench, Kind, Lent, LEAST, MOST};
 use programs::{folder, root, run, Said};
 use second::deck::{block_check, write_deck, BLOCK, LONGEST};
-use second::panel::{self, BAD_DIGIT, RAN, REFUSED, SPENT, STOPPED, SUMMED};
+use second::panel::{self, BAD_DIGIT, RAN, REFUSED, SPENT, STATE, STOPPED, SUMMED};
 use second::random::Random;
 use second::shipped::{APSP, BAD_AT, DONE_AT, SHIPPED, SUMMED_AT};
+use second::state::LATCHES;
 use second::word::{build, index_of, pack, Fields, GIVEN, LAYOUT};
 use std::collections::BTreeSet;
 use std::path::PathBuf;
@@ -359,7 +360,7 @@ fn lent_to(call: Call) -> Lent {
 /// A run that no word ends.
 fn endless() -> Lent {
     let Bench { store, main, local, .. } = Bench::endless();
-    Lent { store, main, local, state: vec![0; 22] }
+    Lent { store, main, local, state: vec![0; STATE] }
 }
 
 #[test]
@@ -387,6 +388,32 @@ fn runs() {
     let kinds: BTreeSet<u64> = answers.iter().map(|answer| answer & 0xFF).collect();
     assert_eq!(kinds, BTreeSet::from([1, 2, 3]));
     assert!(answers.contains(&(1_000_000 << 32 | 3)), "the longest run");
+}
+
+/// The record that a call is lent.
+fn record_lent(call: &Call) -> &[u8] {
+    match call {
+        Call::Cycle { state, .. } | Call::Run { state, .. } | Call::Start { state, .. } => state,
+        other => panic!("no state is lent to {other:?}"),
+    }
+}
+
+/// A cycle, a run and a start write the record, and leave what is lent past it.
+#[test]
+fn bytes_past_the_record_are_left() {
+    for past in [1, 2, 40] {
+        let mut case = endless();
+        case.state.resize(STATE + past, 0xEE);
+        let starts = PROGRAMS.map(|program| {
+            let state = case.state.clone();
+            Call::Start { program, first: 1, second: 2, length: 3, on: 1, state }
+        });
+        for (_, call) in made(&[&[cycle_of(&case), run_of(&case, 9)], &starts[..]].concat()) {
+            let (written, left) = record_lent(&call).split_at(STATE);
+            assert_ne!(written, &case.state[..STATE], "{call:?}");
+            assert_eq!(left, vec![0xEE; past], "{call:?}");
+        }
+    }
 }
 
 /// Of any sizes and words, and one in `some` such that its run goes on.
@@ -460,7 +487,7 @@ fn is_refused(answer: u64, number: u64) -> bool {
 
 /// A latch byte of the record is neither 0 nor 1.
 fn has_odd_latch(case: &Lent) -> bool {
-    case.state.len() >= panel::STATE && case.state[15..21].iter().any(|latch| *latch > 1)
+    case.state.len() >= STATE && LATCHES.iter().any(|latch| case.state[*latch] > 1)
 }
 
 /// By the case, and what its run answered.
@@ -790,7 +817,7 @@ fn the_work_of_the_next_word() {
     let mut seen = BTreeSet::new();
     for (call, answer) in calls.iter().zip(agree(&calls)) {
         let Call::NextSum { store, state, work } = call else { unreachable!() };
-        let short = state.len() < 22 || work.len() < 8;
+        let short = state.len() < STATE || work.len() < 8;
         let cycle = cycle_from(store, state);
         let expected = match cycle {
             _ if short => 19,
@@ -815,26 +842,26 @@ fn store_of(words: usize) -> Vec<u64> {
 fn the_edges_of_the_next_word() {
     // Words, WX, the bytes of state and of work that are lent, and the answer.
     let cases = [
-        (1, 0, 22, 8, 0),
-        (1, 0, 23, 9, 0),
+        (1, 0, STATE, 8, 0),
+        (1, 0, STATE + 1, 9, 0),
         (1, 0, 300, 300, 0),
-        (1, 0, 21, 8, 19),
-        (1, 0, 22, 7, 19),
+        (1, 0, STATE - 1, 8, 19),
+        (1, 0, STATE, 7, 19),
         (1, 0, 0, 8, 19),
-        (1, 0, 22, 0, 19),
-        (0, 0, 21, 8, 19),
-        (0, 0, 22, 7, 19),
-        (0, 0, 22, 8, 1),
-        (1, 1, 22, 8, 1),
-        (1, 0x100, 22, 8, 1),
-        (1, 0xFFFF, 22, 8, 1),
-        (2, 1, 22, 8, 0),
-        (0x102, 0x101, 22, 8, 0),
-        (4096, 4095, 22, 8, 0),
-        (4096, 4096, 22, 8, 1),
-        (4097, 4095, 22, 8, 0),
-        (4097, 4096, 22, 8, 1),
-        (65_536, 65_535, 22, 8, 1),
+        (1, 0, STATE, 0, 19),
+        (0, 0, STATE - 1, 8, 19),
+        (0, 0, STATE, 7, 19),
+        (0, 0, STATE, 8, 1),
+        (1, 1, STATE, 8, 1),
+        (1, 0x100, STATE, 8, 1),
+        (1, 0xFFFF, STATE, 8, 1),
+        (2, 1, STATE, 8, 0),
+        (0x102, 0x101, STATE, 8, 0),
+        (4096, 4095, STATE, 8, 0),
+        (4096, 4096, STATE, 8, 1),
+        (4097, 4095, STATE, 8, 0),
+        (4097, 4096, STATE, 8, 1),
+        (65_536, 65_535, STATE, 8, 1),
     ];
     let random = &mut Random::new(107);
     let call = |(words, wx, room, work, _): (usize, u16, usize, usize, u64)| {
@@ -858,7 +885,7 @@ fn every_way_through_the_adder() {
         for (name, shift, codes) in [("CF", 0, 8), ("CG", 3, 4), ("CV", 5, 4), ("CC", 7, 8)] {
             fields[index_of(name)] = (way >> shift) as u8 % codes;
         }
-        let mut state = bytes(random, 22);
+        let mut state = bytes(random, STATE);
         state[8] = state[8] & 0x6F | ((way >> 10) as u8 & 1) << 7 | ((way >> 11) as u8 & 1) << 4;
         state[13..15].fill(0);
         state[20] = one_of(random, &[0, 1, 200]);
@@ -869,15 +896,15 @@ fn every_way_through_the_adder() {
 }
 
 /// A record of these S, R and D, and of an arriving byte by its latch.
-fn record_of([s, r, d]: [u8; 3], [arriving, byte]: [u8; 2]) -> [u8; 22] {
-    let mut record = [0; 22];
+fn record_of([s, r, d]: [u8; 3], [arriving, byte]: [u8; 2]) -> [u8; STATE] {
+    let mut record = [0; STATE];
     [record[6], record[7], record[8]] = [d, r, s];
     [record[20], record[21]] = [arriving, byte];
     record
 }
 
 /// The work of a word that takes R as A and D as B, all of both unless the codes say otherwise.
-fn work_of(codes: common::Codes, record: [u8; 22]) -> [u8; 8] {
+fn work_of(codes: common::Codes, record: [u8; STATE]) -> [u8; 8] {
     let word = build(0, &[&[("CA", 7), ("CB", 2), ("CF", 3), ("CG", 3), ("CM", 1)], codes].concat()).expect("a word");
     let mut work = [0xEE; 10];
     agree(&[Call::NextSum { store: vec![word], state: record.to_vec(), work: work.to_vec() }]);
@@ -920,6 +947,9 @@ fn an_arriving_byte_is_in_the_work() {
     }
 }
 
+/// For a record: none, one short, right, and more.
+const ROOMS: [usize; 8] = [0, STATE - 1, STATE, STATE, STATE, STATE, STATE + 1, 40];
+
 #[test]
 fn starts() {
     let random = &mut Random::new(113);
@@ -927,12 +957,12 @@ fn starts() {
         let mut calls: Vec<Call> = (0..6000)
             .map(|_| {
                 let (first, second, length) = (random.next() as u16, random.next() as u16, random.next() as u8);
-                let (on, room) = (one_of(random, &CARRIES), one_of(random, &[0, 21, 22, 22, 22, 22, 23, 40]));
+                let (on, room) = (one_of(random, &CARRIES), one_of(random, &ROOMS));
                 Call::Start { program, first, second, length, on, state: bytes(random, room) }
             })
             .collect();
         for (length, on) in (0..=255).flat_map(|length| CARRIES.map(|on| (length, on))) {
-            calls.push(Call::Start { program, first: 0xFFFF, second: 0x8000, length, on, state: vec![0xEE; 22] });
+            calls.push(Call::Start { program, first: 0xFFFF, second: 0x8000, length, on, state: vec![0xEE; STATE] });
         }
         assert_eq!(BTreeSet::from_iter(agree(&calls)), BTreeSet::from([0, 19]));
     }
@@ -949,9 +979,53 @@ fn a_start_by_hand() {
             assert_eq!(program.start(0x1234, 0xABCD, 16, on, &mut state), 0);
             let mut expected = [0; 30];
             expected[..9].copy_from_slice(&[0x12, 0x34, 0xAB, 0xCD, 16, 0, 0, 0, s]);
-            expected[22..].fill(0xEE);
+            expected[STATE..].fill(0xEE);
             assert_eq!(state, expected);
         }
+    }
+}
+
+/// What a cycle answers, and L and the two lamps that it leaves.
+type Left = (u64, u8, [u8; 2]);
+
+/// One cycle of a word that adds R and D to L, all of both unless the codes say otherwise, from these S, R and D and lamps.
+fn lamps_after(codes: common::Codes, registers: [u8; 3], lamps: [u8; 2]) -> Left {
+    let plain = [("CA", 7), ("CB", 2), ("CD", 9), ("CF", 3), ("CG", 3), ("CM", 1)];
+    let word = build(0, &[&plain, codes].concat()).expect("a word");
+    let mut state = record_of(registers, [0, 0]).to_vec();
+    state[22..24].copy_from_slice(&lamps);
+    let call = Call::Cycle { store: vec![word], main: vec![0], local: vec![0; 256], state };
+    let (answer, after) = made(&[call]).remove(0);
+    let left = record_lent(&after);
+    (answer, left[4], [left[22], left[23]])
+}
+
+/// By request 5 of document 02, worked by hand: the digit carry, and then invalid. A record lends them in any value.
+#[test]
+fn the_lamps_of_a_decimal_cycle() {
+    let cases: [(common::Codes, [u8; 3], [u8; 2], Left); 12] = [
+        // AD with sixes is 03: 8 and 3 do not carry, and AD is judged.
+        (&[("CV", 3)], [0, 0x38, 0xAD], [1, 0], (RAN, 0xD5, [0, 1])),
+        // 47 with sixes is AD: 8 and 13 carry.
+        (&[("CV", 3)], [0, 0x38, 0x47], [0, 1], (RAN, 0x85, [1, 0])),
+        // 47 turned is B8: 5, 8 and 1 do not carry, and 47 is judged. FB turned is 04, and FB is judged.
+        (&[("CV", 3), ("CC", 1)], [0x80, 0x85, 0x47], [1, 1], (RAN, 0x38, [0, 0])),
+        (&[("CV", 3), ("CC", 1)], [0x80, 0x85, 0xFB], [1, 0], (RAN, 0x24, [0, 1])),
+        // The gates keep a bad digit out. 04 with sixes is 6A: 8 and 10 carry.
+        (&[("CV", 3), ("CF", 2)], [0, 0x4B, 0x12], [200, 1], (RAN, 0x52, [0, 0])),
+        (&[("CV", 3), ("CG", 1)], [0, 0x38, 0xB4], [0, 7], (RAN, 0x42, [1, 0])),
+        // 4B crossed is B4: its low digit is 4, its high one B.
+        (&[("CV", 3), ("CF", 5)], [0, 0x4B, 0x12], [1, 1], (RAN, 0x16, [0, 0])),
+        (&[("CV", 3), ("CF", 6)], [0, 0x4B, 0x12], [1, 0], (RAN, 0x22, [0, 1])),
+        // In binary 13 and 9 carry, and no digit is judged. A logical cycle puts both lamps out.
+        (&[], [0, 0x5D, 0x99], [0, 1], (RAN, 0xF6, [1, 0])),
+        (&[("CV", 3), ("CC", 3)], [0, 0x3B, 0xAD], [1, 255], (RAN, 0xBF, [0, 0])),
+        // A stop leaves them as they are lent.
+        (&[("CV", 3), ("CF", 4)], [0, 0x38, 0x47], [1, 1], (STOPPED, 0, [1, 1])),
+        (&[("CV", 3), ("CF", 4)], [0, 0x38, 0x47], [7, 255], (STOPPED, 0, [7, 255])),
+    ];
+    for (codes, registers, lamps, expected) in cases {
+        assert_eq!(lamps_after(codes, registers, lamps), expected, "{codes:?} {registers:X?} {lamps:?}");
     }
 }
 
@@ -969,7 +1043,7 @@ fn the_shipped_words() {
 
 /// A call of an entry, and the run of its program's words from its start over the same storage.
 fn sum_and_run(random: &mut Random, program: Program) -> [Call; 2] {
-    let (mut words, mut state) = (program.words().to_vec(), vec![0; 22]);
+    let (mut words, mut state) = (program.words().to_vec(), vec![0; STATE]);
     let (starts, length) =
         ([random.below(16), 32 + random.below(16)].map(|start| start as usize), 1 + random.below(16));
     let on = one_of(random, &CARRIES);

@@ -1,6 +1,6 @@
 //! The arithmetic unit: gates, complement, six, carries, correction and the logical operations.
 
-use crate::bits::{crossed, from_digits, high_digit, low_digit};
+use crate::bits::{both_decimal, crossed, from_digits, high_digit, low_digit};
 use std::sync::LazyLock;
 
 /// The fields and the two bits of S that steer the unit.
@@ -24,7 +24,9 @@ pub struct Answer {
     /// The sum before correction; of a logical operation, the result itself.
     pub sum: u8,
     /// The carry out of the low digit; off for a logical operation.
-    pub low_carry: bool,
+    pub digit_carry: bool,
+    /// A digit over 9 in A or B as gated; off but for a decimal sum.
+    pub invalid: bool,
 }
 
 type Gate = fn(u8) -> u8;
@@ -162,13 +164,13 @@ pub fn add_with(correct: Correction, a: u8, b: u8, controls: &Controls) -> Answe
         Operation::Sum(carry_in) => {
             let carry = carry_in(controls.s3);
             if controls.cv != 3 {
-                binary(a, b, carry)
-            } else if complement {
-                // No six here: 15 less a digit already carries it.
-                decimal(correct, a, b, carry)
-            } else {
-                decimal(correct, a, six_more(b), carry)
+                return binary(a, b, carry);
             }
+            // No six under the complement: 15 less a digit already carries it.
+            let entering = if complement { b } else { six_more(b) };
+            // B is judged as gated, before the complement and the six.
+            let invalid = !both_decimal(a) || !both_decimal(gated);
+            Answer { invalid, ..decimal(correct, a, entering, carry) }
         }
     }
 }
@@ -227,7 +229,8 @@ fn binary(a: u8, b: u8, carry: bool) -> Answer {
         bc1: a % 128 + b % 128 >= 128 - u8::from(carry),
         z0: sum == 0,
         sum,
-        low_carry: low_digit(a) + low_digit(b) + u8::from(carry) >= 16,
+        digit_carry: low_digit(a) + low_digit(b) + u8::from(carry) >= 16,
+        invalid: false,
     }
 }
 
@@ -235,7 +238,7 @@ fn binary(a: u8, b: u8, carry: bool) -> Answer {
 fn decimal(correct: Correction, a: u8, b: u8, carry: bool) -> Answer {
     let plain = binary(a, b, carry);
     let nine_bits = 256 * u16::from(plain.ac) + u16::from(plain.sum);
-    let result = correct(plain.low_carry, nine_bits);
+    let result = correct(plain.digit_carry, nine_bits);
     Answer { result, z0: result == 0, ..plain }
 }
 
@@ -307,7 +310,7 @@ mod tests {
         for (a, b) in [(0xFF, 0xFF), (0xF8, 0x0F), (0, 0)] {
             for cc in [2, 3, 7] {
                 let answer = sum(a, b, 3, cc, false, true);
-                assert!(!answer.ac && !answer.bc1 && !answer.low_carry);
+                assert!(!answer.ac && !answer.bc1 && !answer.digit_carry && !answer.invalid);
                 assert_eq!(answer.sum, answer.result);
                 assert_eq!(answer.z0, answer.result == 0);
             }
@@ -325,7 +328,7 @@ mod tests {
                     assert_eq!(u32::from(answer.result), total & 255);
                     assert_eq!(answer.sum, answer.result);
                     assert_eq!(answer.z0, total & 255 == 0);
-                    assert_eq!((answer.ac, answer.bc1, answer.low_carry), (below(256), below(128), below(16)));
+                    assert_eq!((answer.ac, answer.bc1, answer.digit_carry), (below(256), below(128), below(16)));
                 }
             }
         }
@@ -390,10 +393,10 @@ mod tests {
     }
 
     #[test]
-    fn before_correction_and_low_carry() {
+    fn before_correction_and_digit_carry() {
         let answer = sum(0x38, 0x47, 3, 0, false, false);
         // 47 with sixes is AD; 38 + AD is E5, the low digit carried and the high one did not.
-        assert_eq!((answer.sum, answer.low_carry, answer.ac), (0xE5, true, false));
+        assert_eq!((answer.sum, answer.digit_carry, answer.ac), (0xE5, true, false));
         assert_eq!(answer.result, 0x85);
         assert!(answer.bc1 == (0x38 + 0x2D >= 0x80));
     }

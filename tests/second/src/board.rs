@@ -5,7 +5,7 @@ use crate::cycle::{cycle, next_work, Answer};
 use crate::decimal::{add_decimal, Outcome};
 use crate::run::Ending;
 use crate::shipped::{self, APSP, SHIPPED};
-use crate::state::State;
+use crate::state::{State, RECORD};
 use crate::word::LAYOUT;
 use crate::{apsp, Refusal};
 
@@ -65,7 +65,7 @@ fn latch(heading: &'static str, on: bool) -> Column {
 const REGISTERS: [&str; 13] = ["I", "J", "U", "V", "L", "T", "D", "R", "S", "G", "H", "M", "N"];
 
 fn state_columns(state: &State) -> Vec<Column> {
-    let mut columns = Vec::with_capacity(21);
+    let mut columns = Vec::with_capacity(RECORD);
     columns.extend(REGISTERS.iter().zip(state.registers).map(|(heading, value)| byte(heading, value)));
     columns.push(Column { heading: "WX", digits: 4, value: state.wx });
     columns.extend([
@@ -76,6 +76,8 @@ fn state_columns(state: &State) -> Vec<Column> {
         latch("LS", state.local),
         latch("AR", state.arriving),
         byte("AB", state.arriving_byte),
+        latch("DC", state.digit_carry),
+        latch("INV", state.invalid),
     ]);
     columns
 }
@@ -137,7 +139,7 @@ fn push_line(text: &mut String, number: u64, at: u16, state: &State, work: &Work
 }
 
 /// The rows of lamps of a record: one lamp where the row is a latch, else eight.
-const ROWS: [(&str, bool); 22] = [
+const ROWS: [(&str, bool); RECORD] = [
     ("I", false),
     ("J", false),
     ("U", false),
@@ -160,6 +162,8 @@ const ROWS: [(&str, bool); 22] = [
     ("LOCAL", true),
     ("ARRIVING", true),
     ("BYTE", false),
+    ("DIGIT-CY", true),
+    ("INVALID", true),
 ];
 
 /// A row's name, and its lamps from bit 0, the high one, on.
@@ -228,7 +232,7 @@ pub fn walk() -> String {
     for (place, (name, latch)) in ROWS.into_iter().enumerate() {
         for bit in if latch { 7..8 } else { 0..8 } {
             let number = if latch { " ".into() } else { bit.to_string() };
-            let record = (0..22).map(|other| if other == place { 0x80u8 >> bit } else { 0 });
+            let record = (0..RECORD).map(|other| if other == place { 0x80u8 >> bit } else { 0 });
             let bytes: String = record.map(|byte| format!(" {byte:02X}")).collect();
             text += &format!("{name:>9}{number}{bytes}\n");
         }
@@ -395,13 +399,14 @@ pub fn signed(first: &str, second: &str, subtract: bool, view: &View) -> String 
 #[cfg(test)]
 mod tests {
     use super::*;
+    use crate::state::LATCHES;
 
-    const HEADER: &str = "  CYCLE  AT  I  J  U  V  L  T  D  R  S  G  H  M  N   WX AC 1BC Z0 AW LS AR AB  \
+    const HEADER: &str = "  CYCLE  AT  I  J  U  V  L  T  D  R  S  G  H  M  N   WX AC 1BC Z0 AW LS AR AB DC INV  \
                           A GA  B GB EB CI BEFORE AFTER\n";
 
     /// Every column has a value of its own.
     fn all_different() -> (State, Work) {
-        let bytes = std::array::from_fn(|place| if (15..21).contains(&place) { 0 } else { 0xA0 + place as u8 });
+        let bytes = std::array::from_fn(|place| if LATCHES.contains(&place) { 0 } else { 0xA0 + place as u8 });
         let work = Work {
             a_chosen: 0xC1,
             a_gated: 0xC2,
@@ -412,7 +417,7 @@ mod tests {
             before: 0xC6,
             after: 0xC7,
         };
-        (State { ac: true, z0: true, local: true, ..State::from_bytes(&bytes) }, work)
+        (State { ac: true, z0: true, local: true, invalid: true, ..State::from_bytes(&bytes) }, work)
     }
 
     #[test]
@@ -423,17 +428,18 @@ mod tests {
         push_line(&mut line, 1_000_000, 0xFED, &state, &work);
         assert_eq!(
             line,
-            "1000000 FED A0 A1 A2 A3 A4 A5 A6 A7 A8 A9 AA AB AC ADAE  1   0  1  0  1  0 B5 C1 C2 C3 C4 C5  1     C6    C7\n"
+            "1000000 FED A0 A1 A2 A3 A4 A5 A6 A7 A8 A9 AA AB AC ADAE  1   0  1  0  1  0 B5  0   1 \
+             C1 C2 C3 C4 C5  1     C6    C7\n"
         );
-        assert_eq!((line.len(), HEADER.len()), (109, 109));
+        assert_eq!((line.len(), HEADER.len()), (116, 116));
     }
 
     #[test]
     fn the_start_has_no_address_and_no_work() {
         let mut line = String::new();
         push_start(&mut line, &all_different().0);
-        assert_eq!(line, "      0 --- A0 A1 A2 A3 A4 A5 A6 A7 A8 A9 AA AB AC ADAE  1   0  1  0  1  0 B5\n");
-        assert_eq!(line.len(), 78);
+        assert_eq!(line, "      0 --- A0 A1 A2 A3 A4 A5 A6 A7 A8 A9 AA AB AC ADAE  1   0  1  0  1  0 B5  0   1\n");
+        assert_eq!(line.len(), 85);
     }
 
     /// Of the same state and work, set out by hand.
@@ -443,8 +449,8 @@ CYCLE     12 AT 00F
  *.*..... *.*....* *.*...*. *.*...** *.*..*.. *.*..*.* *.*..**. *.*..***
         S        G        H        M        N        W        X       AC
  *.*.*... *.*.*..* *.*.*.*. *.*.*.** *.*.**.. *.*.**.* *.*.***.        *
-      1BC       Z0    ALLOW    LOCAL ARRIVING     BYTE
-        .        *        .        *        . *.**.*.*
+      1BC       Z0    ALLOW    LOCAL ARRIVING     BYTE DIGIT-CY  INVALID
+        .        *        .        *        . *.**.*.*        .        *
         A  GATED-A        B  GATED-B ENTERS-B CARRY-IN   BEFORE    AFTER
  **.....* **....*. **....** **...*.. **...*.*        * **...**. **...***
 
@@ -456,10 +462,10 @@ CYCLE     12 AT 00F
         let mut picture = String::new();
         push_picture(&mut picture, 12, 0x00F, &state, &work);
         assert_eq!(picture, PICTURE);
-        assert_eq!(picture.len(), 569);
+        assert_eq!(picture.len(), 605);
         let mut start = String::new();
         push_start_picture(&mut start, &state);
-        assert_eq!(start.len(), 416);
+        assert_eq!(start.len(), 452);
         let lines: Vec<&str> = PICTURE.lines().collect();
         assert_eq!(start.lines().collect::<Vec<_>>(), [&["CYCLE      0"], &lines[1..7], &[""]].concat());
     }
@@ -467,10 +473,16 @@ CYCLE     12 AT 00F
     #[test]
     fn the_walk_has_a_line_for_each_lamp() {
         let text = walk();
-        assert_eq!((text.len(), text.lines().count()), (10_318, 134));
-        assert!(text.starts_with("        I0 80 00 00 00 00 00 00 00 00 00 00 00 00 00 00 00 00 00 00 00 00 00\n"));
-        assert!(text.contains("\n      1BC  00 00 00 00 00 00 00 00 00 00 00 00 00 00 00 00 01 00 00 00 00 00\n"));
-        assert!(text.ends_with("\n     BYTE7 00 00 00 00 00 00 00 00 00 00 00 00 00 00 00 00 00 00 00 00 00 01\n"));
+        assert_eq!((text.len(), text.lines().count()), (11_288, 136));
+        assert!(
+            text.starts_with("        I0 80 00 00 00 00 00 00 00 00 00 00 00 00 00 00 00 00 00 00 00 00 00 00 00\n")
+        );
+        assert!(text.contains("\n      1BC  00 00 00 00 00 00 00 00 00 00 00 00 00 00 00 00 01 00 00 00 00 00 00 00\n"));
+        assert!(text.contains("\n     BYTE7 00 00 00 00 00 00 00 00 00 00 00 00 00 00 00 00 00 00 00 00 00 01 00 00\n"));
+        assert!(text.contains("\n DIGIT-CY  00 00 00 00 00 00 00 00 00 00 00 00 00 00 00 00 00 00 00 00 00 00 01 00\n"));
+        assert!(
+            text.ends_with("\n  INVALID  00 00 00 00 00 00 00 00 00 00 00 00 00 00 00 00 00 00 00 00 00 00 00 01\n")
+        );
     }
 
     #[test]

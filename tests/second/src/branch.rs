@@ -72,13 +72,14 @@ pub fn next_address(word: &Word, now: &State) -> u16 {
 mod tests {
     use super::*;
     use crate::random::Random;
+    use crate::state::LATCHES;
     use crate::word::{CM, CU};
 
     /// A state whose every byte and latch is drawn.
     fn drawn(random: &mut Random) -> State {
         State::from_bytes(&std::array::from_fn(|channel| {
             let byte = random.next() as u8;
-            if (15..21).contains(&channel) {
+            if LATCHES.contains(&channel) {
                 byte & 1
             } else {
                 byte

@@ -122,7 +122,8 @@ fn after_arrival(word: &Word, state: &State) -> State {
 fn steps(correct: Correction, word: &Word, storage: &mut Storage, state: &State) -> Result<State, Answer> {
     let now = after_arrival(word, state);
     let sum = arithmetic(correct, word, &now);
-    let mut next = State { ac: sum.ac, bc1: sum.bc1, z0: sum.z0, ..now };
+    let adder::Answer { ac, bc1, z0, digit_carry, invalid, .. } = sum;
+    let mut next = State { ac, bc1, z0, digit_carry, invalid, ..now };
     if let Some(action) = ACTION[usize::from(word[CM])] {
         action(storage, word, &now, &mut next).map_err(refused)?;
     }

@@ -10,7 +10,7 @@ use crate::word::{self, Fields};
 use crate::{apsp, deck, signed, Refusal};
 
 /// PANEL_STATE: the bytes of a record.
-pub const STATE: usize = 22;
+pub use crate::state::RECORD as STATE;
 
 /// PANEL_WORK: the bytes of a cycle's work.
 pub const WORK: usize = 8;

@@ -1,4 +1,4 @@
-//! The state that a cycle changes, in the order of document 01 and of the panel's 22 lamp channels.
+//! The state that a cycle changes, in the order of document 01 and of the panel's lamp channels.
 
 // Places in `registers`.
 pub const I: usize = 0;
@@ -14,6 +14,12 @@ pub const G: usize = 9;
 pub const H: usize = 10;
 pub const M: usize = 11;
 pub const N: usize = 12;
+
+/// The bytes of the panel's record, one for each channel.
+pub const RECORD: usize = 24;
+
+/// The channels that are latches: AC, 1BC, Z0, allow-write, local, arriving, digit carry, invalid.
+pub const LATCHES: [usize; 8] = [15, 16, 17, 18, 19, 20, 22, 23];
 
 #[derive(Clone, Copy, Debug, Default, PartialEq, Eq)]
 pub struct State {
@@ -31,38 +37,35 @@ pub struct State {
     pub arriving: bool,
     /// Means nothing with `arriving` off; a cycle that ran leaves 0 there.
     pub arriving_byte: u8,
+    /// Of the last sum, for the lamps: no branch reads these two.
+    pub digit_carry: bool,
+    pub invalid: bool,
 }
 
 impl State {
     /// The panel's record; a latch is 0 or 1.
-    pub fn to_bytes(&self) -> [u8; 22] {
-        let mut bytes = [0; 22];
+    pub fn to_bytes(&self) -> [u8; RECORD] {
+        let State { ac, bc1, z0, allow_write, local, arriving, digit_carry, invalid, .. } = *self;
+        let mut bytes = [0; RECORD];
         bytes[..13].copy_from_slice(&self.registers);
         bytes[13..15].copy_from_slice(&self.wx.to_be_bytes());
-        let latches = [self.ac, self.bc1, self.z0, self.allow_write, self.local, self.arriving];
-        for (byte, latch) in bytes[15..21].iter_mut().zip(latches) {
-            *byte = u8::from(latch);
+        let latches = [ac, bc1, z0, allow_write, local, arriving, digit_carry, invalid];
+        for (channel, latch) in LATCHES.into_iter().zip(latches) {
+            bytes[channel] = u8::from(latch);
         }
         bytes[21] = self.arriving_byte;
         bytes
     }
 
     /// The state of the panel's record; a latch byte is on at any value but 0.
-    pub fn from_bytes(bytes: &[u8; 22]) -> State {
+    pub fn from_bytes(bytes: &[u8; RECORD]) -> State {
         let mut registers = [0; 13];
         registers.copy_from_slice(&bytes[..13]);
-        let on = |channel: usize| bytes[channel] != 0;
-        State {
-            registers,
-            wx: u16::from_be_bytes([bytes[13], bytes[14]]),
-            ac: on(15),
-            bc1: on(16),
-            z0: on(17),
-            allow_write: on(18),
-            local: on(19),
-            arriving: on(20),
-            arriving_byte: bytes[21],
-        }
+        let wx = u16::from_be_bytes([bytes[13], bytes[14]]);
+        let arriving_byte = bytes[21];
+        let [ac, bc1, z0, allow_write, local, arriving, digit_carry, invalid] =
+            LATCHES.map(|channel| bytes[channel] != 0);
+        State { registers, wx, ac, bc1, z0, allow_write, local, arriving, arriving_byte, digit_carry, invalid }
     }
 }
 
@@ -72,12 +75,12 @@ mod tests {
 
     #[test]
     fn every_channel_has_its_own_byte() {
-        for channel in 0..22 {
-            let mut bytes = [0; 22];
+        for channel in 0..RECORD {
+            let mut bytes = [0; RECORD];
             bytes[channel] = 1;
             assert_eq!(State::from_bytes(&bytes).to_bytes(), bytes);
         }
-        let mut bytes = [0; 22];
+        let mut bytes = [0; RECORD];
         bytes[13] = 0x0A;
         bytes[14] = 0xBC;
         assert_eq!(State::from_bytes(&bytes).wx, 0x0ABC);
@@ -85,18 +88,19 @@ mod tests {
 
     #[test]
     fn a_latch_is_on_at_any_value_but_0() {
-        let bytes = [7; 22];
-        let mut expected = [7; 22];
+        let bytes = [7; RECORD];
+        let mut expected = [7; RECORD];
         expected[15..21].fill(1);
+        expected[22..24].fill(1);
         assert_eq!(State::from_bytes(&bytes).to_bytes(), expected);
     }
 
     #[test]
     fn channels_by_name() {
-        let state = State { z0: true, local: true, ..State::default() };
+        let state = State { z0: true, local: true, invalid: true, ..State::default() };
         let bytes = state.to_bytes();
-        let lit: Vec<usize> = (0..22).filter(|&channel| bytes[channel] == 1).collect();
-        assert_eq!(lit, [17, 19]);
+        let lit: Vec<usize> = (0..RECORD).filter(|&channel| bytes[channel] == 1).collect();
+        assert_eq!(lit, [17, 19, 23]);
         assert_eq!([I, J, U, V, L, T, D, R, S, G, H, M, N], std::array::from_fn(|place| place));
     }
 }

@@ -3,7 +3,10 @@
 
 mod common;
 
-use common::{draw_budgets, each_occurs, lent, lent_to_go_on, one_of, running_word, Bench, Kind, Lent};
+use common::{
+    are_alike, bench_of, draw_budgets, each_occurs, lent_to_go_on, of_cases, one_of, running_word, storage_as_found,
+    Bench, Kind,
+};
 use second::cycle::Answer;
 use second::random::Random;
 use second::run::{Ending, MOST_BUDGET};
@@ -39,15 +42,6 @@ fn fits([store, main, local]: [usize; 3]) -> bool {
     (1..=4096).contains(&store) && (1..=65_536).contains(&main) && local == 256
 }
 
-fn storage_as_found(before: &Bench, after: &Bench) -> bool {
-    before.main == after.main && before.local == after.local
-}
-
-fn are_alike(one: &Bench, other: &Bench) {
-    assert_eq!(one.state, other.state);
-    assert!(storage_as_found(one, other), "the storages differ, at {:03X}", one.state.wx);
-}
-
 // ---- a run in two parts
 
 /// Two runs, the second from where the first ended.
@@ -71,36 +65,6 @@ fn divided(bench: &Bench, budgets: [u64; 2]) -> Division {
         assert_eq!(second, (first.0, 0), "the second run meets the word that ended the first");
     }
     Division { sizes: sizes(bench), budgets, ran }
-}
-
-/// What a run is lent, of any sizes and words, or such that it goes on.
-fn draw_case(random: &mut Random) -> Bench {
-    let stray = one_of(random, &[1, 3, 100]);
-    let mut drawn = if random.below(2) == 0 { lent_to_go_on(random) } else { lent(random, stray) };
-    if random.below(16) == 0 {
-        drawn.store.fill_with(|| random.next());
-    }
-    bench_of(drawn)
-}
-
-/// What is made of each of some drawn cases.
-fn of_cases<Made, const EACH: usize>(
-    seed: u64,
-    cases: usize,
-    make: impl Fn(&mut Random, Bench) -> [Made; EACH],
-) -> Vec<Made> {
-    let random = &mut Random::new(seed);
-    let drawn = |_| {
-        let case = draw_case(random);
-        make(random, case)
-    };
-    (0..cases).flat_map(drawn).collect()
-}
-
-/// A record that is too short is taken as zeros: how the panel answers it is not asked here.
-fn bench_of(Lent { store, main, local, state }: Lent) -> Bench {
-    let state = state.first_chunk().map(State::from_bytes).unwrap_or_default();
-    Bench { store, main, local, state }
 }
 
 /// The first run is spent just where the second has no cycle more.

@@ -150,6 +150,28 @@ fn the_channels_are_those_of_the_record() {
     has_the_channels("panel_channel", "channels", "STATE");
 }
 
+/// A row of the page's channels: its first and last byte, and the constants between.
+fn page_row(line: &str) -> Option<(usize, usize, Vec<String>)> {
+    let mut cells = line.trim_matches('|').split('|').map(str::trim);
+    let (first, last) = cells.next()?.split_once(" to ")?;
+    let constants = cells.next()?.split(' ').map(|name| name.trim_matches('`').to_owned()).collect();
+    Some((first.parse().ok()?, last.parse().ok()?, constants))
+}
+
+#[test]
+fn the_page_lists_the_channels() {
+    let page = read("docs/BOARD.md");
+    let (_, section) = page.split_once("\n## The lamp channels\n").expect("the section");
+    let (section, _) = section.split_once("\n## ").expect("its end");
+    let mut found = Vec::new();
+    for (first, last, constants) in section.lines().filter_map(page_row) {
+        assert_eq!((first, last + 1), (found.len(), found.len() + constants.len()), "{constants:?}");
+        found.extend(constants);
+    }
+    assert!(section.contains(&format!("`PANEL_STATE` bytes, {},", found.len())), "its length");
+    assert_eq!(found, listed("channels"));
+}
+
 #[test]
 fn the_work_is_that_of_the_record() {
     has_the_channels("panel_work", "workChannels", "WORK");

@@ -16,7 +16,7 @@ fn decimal(a: u8, b: u8, gate: u8, s0: bool, carry: bool) -> Answer {
 #[test]
 fn sixteen_and_eighteen() {
     let answer = decimal(0x18, 0x16, 3, false, false);
-    assert_eq!((answer.sum, answer.low_carry, answer.ac), (0x94, true, false));
+    assert_eq!((answer.sum, answer.digit_carry, answer.ac), (0x94, true, false));
     assert_eq!(answer.result, 0x34);
 }
 
@@ -26,14 +26,14 @@ fn a_hundred_and_thirty_eight_and_a_hundred_and_seventeen() {
     let low = decimal(0x7C, 0x8C, 2, false, false);
     assert_eq!((low.result, low.ac), (0x50, true));
     let high = decimal(0x11, 0x13, 3, false, low.ac);
-    assert_eq!((high.sum, high.low_carry, high.ac), (0x8B, false, false));
+    assert_eq!((high.sum, high.digit_carry, high.ac), (0x8B, false, false));
     assert_eq!(high.result, 0x25);
 }
 
 #[test]
 fn sixteen_from_eighteen() {
     let answer = decimal(0x18, 0x16, 3, true, true);
-    assert_eq!((answer.sum, answer.low_carry, answer.ac), (0x02, true, true));
+    assert_eq!((answer.sum, answer.digit_carry, answer.ac), (0x02, true, true));
     assert_eq!(answer.result, 0x02);
 }
 
@@ -42,7 +42,7 @@ fn two_hundred_from_a_hundred_and_ninety() {
     let low = decimal(0x0C, 0x0C, 2, true, true);
     assert_eq!((low.result, low.ac), (0x00, true));
     let high = decimal(0x19, 0x20, 3, true, low.ac);
-    assert_eq!((high.sum, high.low_carry, high.ac), (0xF9, true, false));
+    assert_eq!((high.sum, high.digit_carry, high.ac), (0xF9, true, false));
     assert_eq!(high.result, 0x99);
     // No carry: the answer is complemented again, from zero.
     let low = decimal(0x00, low.result, 2, true, true);

@@ -7,7 +7,7 @@ use Rattle.adder.proofs.entering_b.Tie as tie
 returns : tie.Need-returns
 returns c =
     c .entering .ensures
-    ∙ (λ i. entering (c .before .before .before .is-decimal .ensures i) (c .before .before .is-complement .ensures i) (c .before .gated-b .ensures i))
+    ∙ (λ i. entering (c .before .before .is-decimal .ensures i) (c .before .is-complement .ensures i) (c .before .before .before .args .b))
 
 pub entering-b-spec : {M : Type 1} → statement M
-entering-b-spec = tie.close (tie.spec (λ c κs. tt) (λ c κs. tt) (λ c κs. tt) (λ c κs. tt) returns)
+entering-b-spec = tie.close (tie.spec (λ c κs. tt) (λ c κs. tt) (λ c κs. tt) returns)

@@ -3,7 +3,7 @@ use Prim.Native.Nat.{ℕ, zero, suc}
 use mathlib.Core.Path.{_≡_, refl, sym, ap, _∙_}
 use mathlib.Core.List.{[], _∷_}
 use lib.ListN.{getD}
-use Rattle.adder.specs.Adder.{finished, arithmetic}
+use Rattle.adder.specs.Adder.{summed}
 use Rattle.adder.proofs.operated.Statement.{statement}
 use Rattle.adder.proofs.operated.Tie as tie
 
@@ -20,21 +20,20 @@ rest s a o x (suc (suc (suc (suc (suc (suc (suc zero))))))) two three seven = ab
 rest s a o x (suc (suc (suc (suc (suc (suc (suc (suc cc)))))))) two three seven = refl
 
 returns : tie.Need-returns
-returns c = rw (c .before .match .keys1) (ap finished (c .uncarried .ensures))
+returns c = rw (c .before .match .keys1) (c .uncarried .ensures)
 
 returns-2 : tie.Need-returns-2
-returns-2 c = rw (c .before .match .keys2) (ap finished (c .uncarried2 .ensures))
+returns-2 c = rw (c .before .match .keys2) (c .uncarried2 .ensures)
 
 returns-3 : tie.Need-returns-3
-returns-3 c = rw (c .before .match .keys3) (ap finished (c .uncarried3 .ensures))
+returns-3 c = rw (c .before .match .keys3) (c .uncarried3 .ensures)
 
 returns-4 : tie.Need-returns-4
-unfolding arithmetic
 returns-4 c =
     let a = c .before .before .before .args in
     let n = c .before .before .match .rest in
-    ap finished (c .summed .ensures)
-    ∙ ap (arithmetic (a .decimal) (a .a) (a .b)) (c .before .one .ensures .0)
+    c .summed .ensures
+    ∙ ap (summed (a .decimal) (a .a) (a .b)) (c .before .one .ensures .0)
     ∙ sym (rest _ _ _ _ (a .cc) (n .0 .0 .1) (n .0 .1) (n .1))
 
 pub operated-spec : {M : Type 1} → statement M

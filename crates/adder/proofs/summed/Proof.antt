@@ -1,6 +1,7 @@
 -- `adder::summed` meets its contract. Assumes nothing.
 use mathlib.Core.Path.{refl}
 use borrow.Author.Needs.{needs}
+use Rattle.adder.specs.Adder.{summed}
 use Rattle.adder.proofs.summed.Statement.{statement}
 use Rattle.adder.proofs.summed.Tie as tie
 
@@ -26,6 +27,7 @@ cast-byte : tie.Need-cast-byte
 cast-byte c = search needs
 
 returns : tie.Need-returns
+unfolding summed
 returns c = refl
 
 pub summed-spec : {M : Type 1} → statement M

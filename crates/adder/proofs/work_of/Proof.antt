@@ -1,30 +1,34 @@
 -- `adder::work_of` meets its contract, from what its parts promise. Assumes nothing.
+use Prim.Native.Nat.{ℕ}
 use mathlib.Core.Path.{ap, _∙_}
 use mathlib.Core.Bool.{cond}
-use Rattle.adder.specs.Adder.{operated, sumOf, workOf}
-use Rattle.adder.specs.declared.Sum.{Sum}
+use Rattle.adder.specs.Adder.{resultOf, operated, enteringB, sumOf, workOf}
 use Rattle.adder.proofs.work_of.Statement.{statement}
 use Rattle.adder.proofs.work_of.Tie as tie
 
 returns : tie.Need-returns
-unfolding workOf sumOf
+unfolding workOf sumOf resultOf
 returns c =
-    let a = c .before .before .before .before .before .before .before .before .args in
-    let gated-a = c .before .before .before .before .before .before .before .gated-a .ensures in
-    let entering-b = c .before .before .before .before .before .before .entering-b .ensures in
-    let carry-in = c .before .before .before .before .before .carry-in .ensures in
-    let decimal = c .before .before .before .before .is-decimal .ensures in
-    let u = c .before .before .before .operated .result in
-    let sum = c .before .before .before .operated .ensures ∙ (λ i. operated (a .c .cc) (decimal i) (gated-a i) (entering-b i) (carry-in i)) in
-    let after = c .first-of .ensures ∙ (λ i. cond (u .decimal) (c .before .before .corrected .ensures i) (u .byte)) ∙ ap (λ (z : Sum). z .result) sum in
+    let summed = c .before .before in
+    let entered = summed .before .before .before in
+    let gated = entered .before in
+    let a = gated .before .before .args in
+    let gated-a = gated .before .gated-a .ensures in
+    let gated-b = gated .gated-b .ensures in
+    let enters = entered .entering-b .ensures ∙ ap (λ (y : ℕ). enteringB y (a .c)) gated-b in
+    let carry-in = summed .before .before .carry-in .ensures in
+    let decimal = summed .before .is-decimal .ensures in
+    let u = summed .operated .result in
+    let sum = summed .operated .ensures ∙ (λ i. operated (a .c .cc) (decimal i) (gated-a i) (enters i) (carry-in i)) in
+    let after = c .first-of .ensures ∙ (λ i. cond (u .decimal) (c .before .corrected .ensures i) (u .byte)) ∙ ap resultOf sum in
     λ i. record {
       «a_chosen» = a .a;
       «a_gated» = gated-a i;
       «b_chosen» = a .b;
-      «b_gated» = c .before .gated-b .ensures i;
-      «b_entering» = entering-b i;
+      «b_gated» = gated-b i;
+      «b_entering» = enters i;
       «carry_in» = carry-in i;
-      before = sum i .uncorrected;
+      before = sum i .byte;
       after = after i;
     }
 

@@ -4,9 +4,19 @@ use borrow.Author.Needs.{needs}
 use Rattle.channels.proofs.saved.Statement.{statement}
 use Rattle.channels.proofs.saved.Tie as tie
 
+-- from the last latch back to the first
 returns : tie.Need-returns
 unfolding saved
-returns c = rw (c .before .before .before .before .before .one .ensures .0, c .before .before .before .before .one2 .ensures .0, c .before .before .before .one3 .ensures .0, c .before .before .one4 .ensures .0, c .before .one5 .ensures .0, c .one6 .ensures .0)
+returns c =
+    let invalid = c in
+    let carry = invalid .before in
+    let arriving = carry .before in
+    let local = arriving .before in
+    let allow = local .before in
+    let z = allow .before in
+    let bc = z .before in
+    let ac = bc .before in
+    rw (ac .one .ensures .0, bc .one2 .ensures .0, z .one3 .ensures .0, allow .one4 .ensures .0, local .one5 .ensures .0, arriving .one6 .ensures .0, carry .one7 .ensures .0, invalid .one8 .ensures .0)
 
 pub saved-spec : {M : Type 1} → statement M
 saved-spec =
@@ -14,6 +24,8 @@ saved-spec =
     (tie.spec
     (λ c. search needs)
     (λ c. search needs)
+    (λ c κs. tt)
+    (λ c κs. tt)
     (λ c κs. tt)
     (λ c κs. tt)
     (λ c κs. tt)

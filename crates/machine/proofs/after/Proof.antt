@@ -30,6 +30,8 @@ returns c =
       «local_selected» = a .a .local;
       arriving = a .a .fetches;
       «arriving_byte» = a .fetched;
+      «digit_carry» = a .z .«digit_carry»;
+      invalid = a .z .invalid;
     }
 
 pub after-spec : {M : Type 1} → statement M

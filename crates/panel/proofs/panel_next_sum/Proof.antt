@@ -1,6 +1,7 @@
 -- 19, then the work, or 1. Assumes nothing.
 use mathlib.Core.Path.{ap, _∙_}
 use lib.ListN.{length}
+use Rattle.channels.specs.Channels.{recordLength}
 use Rattle.panel.specs.Answers.{answered}
 use Rattle.panel.proofs.Calls.{both-lent, next-short, next-is}
 use borrow.Author.Needs.{needs}
@@ -13,7 +14,7 @@ returns c = next-short _ _ _ (c .if1 .taken)
 save-work-requires : tie.Need-save-work-requires
 save-work-requires c κs =
     let a = c .before .before .before .before .before .before .before .before .before .before .args in
-    both-lent (length (a .state .now)) (length (a .work .now)) 22 8 (c .before .before .before .before .before .before .if1 .left) .1
+    both-lent (length (a .state .now)) (length (a .work .now)) recordLength 8 (c .before .before .before .before .before .before .if1 .left) .1
 
 returns-2 : tie.Need-returns-2
 returns-2 c =

@@ -9,7 +9,7 @@ const DIGEST_EVERY: u64 = 16_384;
 
 /// All that the adder hands back, as one number.
 fn value(answer: &Answer) -> u64 {
-    let latches = [answer.ac, answer.bc1, answer.z0, answer.low_carry];
+    let latches = [answer.ac, answer.bc1, answer.z0, answer.digit_carry, answer.invalid];
     let bits = latches.iter().fold(0, |bits, latch| bits << 1 | u64::from(*latch));
     u64::from(answer.result) << 16 | u64::from(answer.sum) << 8 | bits
 }

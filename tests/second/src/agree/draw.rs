@@ -161,6 +161,8 @@ pub fn drawn_state(c: u64, e: u64, wx: u16) -> State {
         local: latch(4),
         arriving: latch(5),
         arriving_byte: bits(e, 56, 8),
+        digit_carry: latch(6),
+        invalid: latch(7),
     }
 }
 

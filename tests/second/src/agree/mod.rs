@@ -55,11 +55,12 @@ fn joined(bytes: &[u8]) -> u64 {
     bytes.iter().fold(0, |number, byte| number << 8 | u64::from(*byte))
 }
 
-/// The digest after all of a state: its registers eight at a time, with WX, and its latches with the arriving byte.
+/// The digest after all of a state: its registers eight at a time, with WX, and its latches, the lamps' two first, with the
+/// arriving byte.
 fn mix_state(digest: u64, state: &State) -> u64 {
     let record = state.to_bytes();
     let rest = joined(&record[8..13]) << 24 | joined(&record[13..15]);
-    let latches = record[15..21].iter().fold(0, |number, latch| number << 1 | u64::from(*latch));
+    let latches = record[22..24].iter().chain(&record[15..21]).fold(0, |number, latch| number << 1 | u64::from(*latch));
     let last = latches << 8 | u64::from(record[21]);
     [joined(&record[..8]), rest, last].into_iter().fold(digest, mix)
 }

@@ -4,7 +4,7 @@
 use second::cycle::{cycle, not_modelled, Answer, LOCAL_BYTES, MOST_MAIN, MOST_WORDS};
 use second::random::Random;
 use second::run::{run, Ending};
-use second::state::State;
+use second::state::{State, LATCHES, RECORD};
 use second::word::{build, index_of, pack, split, with_right_pk, Fields, CF, GIVEN, LAYOUT};
 use std::collections::BTreeSet;
 
@@ -192,9 +192,9 @@ pub fn draw_bytes(random: &mut Random, count: usize) -> Vec<u8> {
 
 /// A state of which every part is drawn, at an address of the store.
 pub fn draw_state(random: &mut Random, words: usize) -> State {
-    let mut bytes: [u8; 22] = std::array::from_fn(|_| random.next() as u8);
-    for latch in &mut bytes[15..21] {
-        *latch &= 1;
+    let mut bytes: [u8; RECORD] = std::array::from_fn(|_| random.next() as u8);
+    for latch in LATCHES {
+        bytes[latch] &= 1;
     }
     // Main storage is small on the bench, so most addresses are kept low.
     for high in [0, 2, 4, 11] {
@@ -229,7 +229,7 @@ pub struct Lent {
 pub fn lent(random: &mut Random, stray: u64) -> Lent {
     let mut words = one_of(random, &[1, 2, 16, 64, 256, 257]);
     let mut main = one_of(random, &[1, 255, 256, 257, 1024, 1024, 1024, 1024]);
-    let (mut local, mut room) = (256, one_of(random, &[22, 22, 22, 22, 22, 23, 40]));
+    let (mut local, mut room) = (256, one_of(random, &[RECORD, RECORD, RECORD, RECORD, RECORD, RECORD + 1, 40]));
     match random.below(128) {
         0 => words = 0,
         1 => words = 4097,
@@ -237,7 +237,7 @@ pub fn lent(random: &mut Random, stray: u64) -> Lent {
         3 => main = 65537,
         4 => local = 255,
         5 => local = 257,
-        6 => room = 21,
+        6 => room = RECORD - 1,
         7 => room = 0,
         8 => words = 4096,
         9 => main = 65536,
@@ -258,11 +258,11 @@ pub fn lent(random: &mut Random, stray: u64) -> Lent {
 /// A record in so many bytes: WX mostly in the store, addresses mostly near the ends of a page, latches of any value.
 fn draw_record(random: &mut Random, room: usize, words: u64) -> Vec<u8> {
     let mut state = draw_bytes(random, room);
-    if let Some(record) = state.first_chunk_mut::<22>() {
+    if let Some(record) = state.first_chunk_mut::<RECORD>() {
         let wx = if random.below(16) == 0 { random.next() as u16 } else { random.below(words.max(1)) as u16 };
         record[13..15].copy_from_slice(&wx.to_be_bytes());
         let highs = [0, 2, 4, 11].map(|place| (place, [0, 0, 1, 3, 255]));
-        let latches = [15, 16, 17, 18, 19, 20].map(|place| (place, [0, 0, 1, 7, 255]));
+        let latches = LATCHES.map(|place| (place, [0, 0, 1, 7, 255]));
         for (place, values) in highs.into_iter().chain(latches) {
             record[place] = one_of(random, &values);
         }
@@ -279,8 +279,47 @@ pub fn lent_to_go_on(random: &mut Random) -> Lent {
         _ => running_word(random, address),
     };
     let store = (0..MOST_WORDS as u32).map(|address| word(random, address)).collect();
-    let state = draw_record(random, 22, MOST_WORDS as u64);
+    let state = draw_record(random, RECORD, MOST_WORDS as u64);
     Lent { store, main: draw_bytes(random, MOST_MAIN), local: draw_bytes(random, LOCAL_BYTES), state }
+}
+
+/// A record that is too short is taken as zeros: how the panel answers it is not asked here.
+pub fn bench_of(Lent { store, main, local, state }: Lent) -> Bench {
+    let state = state.first_chunk().map(State::from_bytes).unwrap_or_default();
+    Bench { store, main, local, state }
+}
+
+/// What a run is lent, of any sizes and words, or such that it goes on.
+fn draw_case(random: &mut Random) -> Bench {
+    let stray = one_of(random, &[1, 3, 100]);
+    let mut drawn = if random.below(2) == 0 { lent_to_go_on(random) } else { lent(random, stray) };
+    if random.below(16) == 0 {
+        drawn.store.fill_with(|| random.next());
+    }
+    bench_of(drawn)
+}
+
+/// What is made of each of some drawn cases.
+pub fn of_cases<Made, const EACH: usize>(
+    seed: u64,
+    cases: usize,
+    make: impl Fn(&mut Random, Bench) -> [Made; EACH],
+) -> Vec<Made> {
+    let random = &mut Random::new(seed);
+    let drawn = |_| {
+        let case = draw_case(random);
+        make(random, case)
+    };
+    (0..cases).flat_map(drawn).collect()
+}
+
+pub fn storage_as_found(before: &Bench, after: &Bench) -> bool {
+    before.main == after.main && before.local == after.local
+}
+
+pub fn are_alike(one: &Bench, other: &Bench) {
+    assert_eq!(one.state, other.state);
+    assert!(storage_as_found(one, other), "the storages differ, at {:03X}", one.state.wx);
 }
 
 /// Two budgets, of which either may be 0.

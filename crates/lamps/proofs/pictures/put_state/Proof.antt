@@ -3,15 +3,14 @@ use Prim.Native.Nat.{ℕ, _≤_}
 use mathlib.Core.Path.{refl, sym, ap, _∙_}
 use mathlib.Core.List.{List, [], _++_}
 use native.Mathlib.Omega.{arith}
-use lib.ListN.{length, take, drop, length-append}
+use lib.ListN.{length, take, length-append}
 use lib.Seq.{length-take-le}
 use borrow.Author.Needs.{needs}
 use Rattle.digits.specs.Lent.{overAt}
 use Rattle.digits.proofs.Puts.{put-from, put-at}
-use Rattle.channels.specs.Channels.{channels, saved}
-use Rattle.lamps.specs.Picture.{blockBytes}
+use Rattle.channels.specs.Channels.{saved}
 use Rattle.lamps.proofs.Chain.{then}
-use Rattle.lamps.proofs.Rows.{namesAt, countsAt, statePart, state-blocks}
+use Rattle.lamps.proofs.Rows.{statePart, state-blocks}
 use Rattle.lamps.proofs.pictures.put_state.Statement.{statement}
 use Rattle.lamps.proofs.pictures.put_state.Tie as tie
 
@@ -33,7 +32,7 @@ returns c =
     let p = put-from whole (a .room .now) (a .at) (omega (arith, s .pre)) in
     let p = then p one (two ++ (three ++ [])) refl (ap (statePart 0) e) (first .put-block .ensures .1) fits in
     let p = then p two (three ++ []) refl (ap (statePart 8) e) (second .put-block2 .ensures .1) fits in
-    let p = then p three [] refl (ap (λ (b : List ℕ). blockBytes (namesAt channels 16) (countsAt channels 16) (take 6 (drop 16 b))) e) (c .before .before .put-block3 .ensures .1) fits in (
+    let p = then p three [] refl (ap (statePart 16) e) (c .before .before .put-block3 .ensures .1) fits in (
       omega (arith, rw e at (first .put-block .ensures .0), rw e at (second .put-block2 .ensures .0), rw e at (c .before .before .put-block3 .ensures .0)),
       put-at whole (a .room .now) (a .at) (omega (arith, s .pre)) p ∙ ap (λ (t : List ℕ). overAt (a .at) t (a .room .now)) (sym (state-blocks (a .s))),
     )

@@ -8,12 +8,12 @@ use borrow.Author.Needs.{needs}
 use Rattle.digits.proofs.Copies.{over-full}
 use Rattle.digits.proofs.Puts.{Put, put-none, put-turn, put-all}
 use Rattle.lamps.specs.Walk.{pairs, walkLine}
-use Rattle.lamps.proofs.Lit.{linesOf, lampsFrom, lamps-step, lamps-end, length-line, length-lines, length-pairs}
+use Rattle.lamps.proofs.Lit.{lineLength, linesOf, lampsFrom, lamps-step, lamps-end, length-line, length-lines, length-pairs}
 use Rattle.lamps.proofs.walks.put_lamps.Statement.{statement}
 use Rattle.lamps.proofs.walks.put_lamps.Tie as tie
 
 abbrev Inv-loop : tie.InvT-loop
-Inv-loop row numbers bytes out₀ i₀ out i = (i ≤ length bytes) × Put (linesOf row (pairs numbers bytes)) out₀ (lampsFrom row numbers bytes i) out (77 * i)
+Inv-loop row numbers bytes out₀ i₀ out i = (i ≤ length bytes) × Put (linesOf row (pairs numbers bytes)) out₀ (lampsFrom row numbers bytes i) out (lineLength * i)
 
 abbrev μ-loop : tie.MeasureT-loop
 μ-loop row numbers bytes out₀ i₀ out i = length bytes - i
@@ -27,9 +27,9 @@ put-lamp-requires : tie.Need-put-lamp-requires Inv-loop μ-loop
 put-lamp-requires c κs =
     let l = c .before .before .before .before .loop in
     let s = c .before .before .before .before .before .before .before .before in
-    let at = 77 * l .i in
-    let k : at + 77 - at ≡ 77 = add-sub-cancel-left at 77 in
-    (s .pre .0, rw (k, length-take 77 (drop at (l .out)), length-drop at (l .out)) (omega (arith, s .pre, c .before .before .before .loop-test .taken, l .inv .1 .same)))
+    let at = lineLength * l .i in
+    let k : at + lineLength - at ≡ lineLength = add-sub-cancel-left at lineLength in
+    (s .pre .0, rw (k, length-take lineLength (drop at (l .out)), length-drop at (l .out)) (omega (arith, s .pre, c .before .before .before .loop-test .taken, l .inv .1 .same)))
 
 loop-again : tie.Need-loop-again Inv-loop μ-loop
 loop-again c =
@@ -39,13 +39,13 @@ loop-again c =
     let row = s .args .row in
     let ns = s .args .numbers .now in
     let xs = s .args .bytes .now in
-    let at = 77 * l .i in
-    let k : at + 77 - at ≡ 77 = add-sub-cancel-left at 77 in
-    let next : 77 * (l .i + 1) ≡ at + 77 = omega arith in
+    let at = lineLength * l .i in
+    let k : at + lineLength - at ≡ lineLength = add-sub-cancel-left at lineLength in
+    let next : lineLength * (l .i + 1) ≡ at + lineLength = omega arith in
     let new = walkLine row (getD ns (l .i) 0, getD xs (l .i) 0) in
     let fits = length-lines row (pairs ns xs) (s .pre .0) in
     let step = lamps-step row ns xs (l .i) (omega (arith, s .pre)) (turn .loop-test .taken) in
-    (search needs, rw (k, next) (put-turn (l .inv .1) new _ _ 77 step (length-line row _ (s .pre .0)) (c .before .before .put-lamp .ensures) (omega (arith, s .pre, fits, length-pairs ns xs (s .pre .1 .0)))))
+    (search needs, rw (k, next) (put-turn (l .inv .1) new _ _ lineLength step (length-line row _ (s .pre .0)) (c .before .before .put-lamp .ensures) (omega (arith, s .pre, fits, length-pairs ns xs (s .pre .1 .0)))))
 
 returns : tie.Need-returns Inv-loop μ-loop
 returns c =

@@ -7,7 +7,7 @@ use lib.ListN.{length, getD, drop, length-take, length-drop}
 use borrow.Author.Needs.{needs}
 use Rattle.digits.proofs.Puts.{Put, put-none, put-turn}
 use Rattle.text.proofs.Texts.{too-small}
-use Rattle.channels.specs.Channels.{channels}
+use Rattle.channels.specs.Channels.{channels, recordLength}
 use Rattle.lamps.specs.Columns.{digitCounts}
 use Rattle.lamps.specs.Walk.{walkRow, walkOf}
 use Rattle.lamps.proofs.Chain.{finished}
@@ -16,10 +16,10 @@ use Rattle.lamps.proofs.walks.walk.Statement.{statement}
 use Rattle.lamps.proofs.walks.walk.Tie as tie
 
 abbrev Inv-loop : tie.InvT-loop
-Inv-loop room₀ digits at₀ row₀ room at row = (row ≤ 22) × Put (rowsLeft 0) room₀ (rowsLeft row) room at
+Inv-loop room₀ digits at₀ row₀ room at row = (row ≤ recordLength) × Put (rowsLeft 0) room₀ (rowsLeft row) room at
 
 abbrev μ-loop : tie.MeasureT-loop
-μ-loop room₀ digits at₀ row₀ room at row = 22 - row
+μ-loop room₀ digits at₀ row₀ room at row = recordLength - row
 
 returns : tie.Need-returns Inv-loop μ-loop
 unfolding walkOf
@@ -57,7 +57,7 @@ returns-2 : tie.Need-returns-2 Inv-loop μ-loop
 unfolding walkOf
 returns-2 c =
     let l = c .before .loop in
-    let end : l .row ≡ 22 = omega (arith, c .loop-test .left, l .inv .0) in
+    let end : l .row ≡ recordLength = omega (arith, c .loop-test .left, l .inv .0) in
     finished (rw end at (l .inv .1)) (omega (arith, length-walk, c .before .before .if1 .left))
 
 pub walk-spec : {M : Type 1} → statement M

@@ -1,0 +1,23 @@
+-- "No branch reads them.": document 02, request 5, of a whole run. Assumes nothing.
+use Prim.Native.Nat.{ℕ}
+use mathlib.Core.Path.{_≡_}
+use mathlib.Core.List.{List}
+use mathlib.Core.Bool.{Bool, cond}
+use lib.Dec.{eqb}
+use Rattle.machine.specs.Cycle.{Outcome}
+use Rattle.machine.specs.Lamps.{withLamps}
+use Rattle.machine.specs.declared.State.{State}
+use Rattle.run.specs.Run.{ended, runOf}
+use Rattle.run.specs.declared.Finished.{Finished}
+
+-- the run with these two lamps at its start: they are still lit so where no cycle ran
+abbrev pub runWith : Bool → Bool → Outcome Finished → Outcome Finished
+runWith carry invalid r =
+    ended (r .answer .ending) (cond (eqb (r .answer .count) 0) (withLamps carry invalid (r .answer .state)) (r .answer .state)) (r .answer .count) (r .main) (r .local)
+
+-- two states that differ in these two lamps alone run alike, whatever the budget, so cycle for cycle
+abbrev pub RunUnread : Type 0
+RunUnread =
+    (budget : ℕ) (store main local : List ℕ) (s : State) (carry invalid : Bool) (r : Outcome Finished)
+    → r ≡ runOf budget store main local s
+    → runWith carry invalid r ≡ runOf budget store main local (withLamps carry invalid s)
