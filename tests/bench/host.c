@@ -41,19 +41,24 @@ static double now(void) {
     return t.sec * 1e9 + t.nsec;
 }
 
+// What a run answers: how many cycles ran, 2^32 times WX after them, and 2^48 times the two lamps of the last sum.
+static u64 answered(u64 done, u64 wx, u64 digit_carry, u64 invalid) {
+    return done | wx << 32 | digit_carry << 48 | invalid << 49;
+}
+
 static u64 by_plain(struct storage *s) {
     struct plain state = {0};
     u64 done = plain_run(store, WORDS, s->main, MAIN, s->local, &state, BUDGET);
-    return done | (u64)state.wx << 32;
+    return answered(done, state.wx, state.digit_carry, state.invalid);
 }
 
 static __typeof__(panel_run) *small, *large;
 
-// A run from a record of zeros: how many cycles ran, and 2^32 times WX after them.
+// A run from a record of zeros.
 static u64 by(__typeof__(panel_run) *run, struct storage *s) {
     u8 state[PANEL_STATE] = {0};
     u64 done = run(store, WORDS, s->main, MAIN, s->local, LOCAL, state, PANEL_STATE, BUDGET) >> 32;
-    return done | (u64)(state[PANEL_WX_HIGH] << 8 | state[PANEL_WX_LOW]) << 32;
+    return answered(done, state[PANEL_WX_HIGH] << 8 | state[PANEL_WX_LOW], state[PANEL_DIGIT_CARRY], state[PANEL_INVALID]);
 }
 
 static u64 by_rule(struct storage *s) { return by(small, s); }

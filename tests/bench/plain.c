@@ -1,4 +1,4 @@
-// A plain engine, written by hand from document 01 for speed and for nothing else: what the proved one is timed beside.
+// A plain engine, written by hand from documents 01 and 02 for speed and for nothing else: what the proved one is timed beside.
 #include "plain.h"
 
 typedef unsigned char u8;
