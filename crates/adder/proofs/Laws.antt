@@ -23,6 +23,10 @@ use Rattle.digits.proofs.Table.{any}
 use Rattle.digits.proofs.Truth.{both, same-test}
 use Rattle.adder.proofs.Gates.{gated-a-lt, gated-b-lt}
 
+-- the answer of a sum, whatever was judged of its inputs
+abbrev pub arithmetic : Bool → ℕ → ℕ → ℕ → Sum
+arithmetic decimal a b carry = finished false (summed decimal a b carry)
+
 -- ---- one digit
 
 -- what a digit's sum leaves when corrected by its own carry, and that carry
@@ -41,10 +45,6 @@ digit n h = by (leb 16 (n + 6)) refl
     by false e = let t = leb-false 16 (n + 6) e in (omega arith, omega arith)
 
 -- ---- a byte, by its two digits
-
--- the answer of a sum, whatever was judged of its inputs
-abbrev pub arithmetic : Bool → ℕ → ℕ → ℕ → Sum
-arithmetic decimal a b carry = finished false (summed decimal a b carry)
 
 carry-is : (sum : ℕ) → sum < 32 → sum / 16 ≡ carry sum
 carry-is sum h = by (leb 16 sum) refl
@@ -78,7 +78,7 @@ module _ (a b c : ℕ) (h : lows a b c < 32) where
   corrected-is = λ i. digits (lowered (carry-of i) (high-of i)) (lowered (leb 16 (lows a b c)) (low-of i))
 
   carry-out : one (arithmetic true a b c .ac) ≡ carry (highs a b c)
-  unfolding summed resultOf
+  unfolding summed
   carry-out = ap one carry-of
 
 -- ---- decimal sums

@@ -26,7 +26,7 @@ isLogical cc = eqb cc 2 || (eqb cc 3 || eqb cc 7)
 abbrev pub isDecimal : ℕ → ℕ → Bool
 isDecimal cv cc = eqb cv 3 && not (isLogical cc)
 
--- "a digit over 9 on either input of a decimal cycle, as gated and before any complement or six"
+-- "a digit over 9 on either input of a decimal cycle, as gated and before any complement or six"; "In binary .. the invalid lamp is off"
 abbrev pub isInvalid : Bool → ℕ → ℕ → Bool
 isInvalid decimal a b = decimal && not (bothDecimal a && bothDecimal b)
 
@@ -47,7 +47,7 @@ abbrev pub entering : Bool → Bool → ℕ → ℕ
 entering decimal complemented b = cond (decimal && not complemented) (sixes b) (turned complemented b)
 
 -- "The sum is A + B + carry in. AC is set at 256 or more; 1BC when the low seven bits with the carry in reach 128.": of A as gated and B as
--- it enters. "a lamp for the carry between digits"
+-- it enters, with "the carry between digits"
 unfoldable pub summed : Bool → ℕ → ℕ → ℕ → Uncorrected
 summed decimal a b carry =
     record {
@@ -58,7 +58,7 @@ summed decimal a b carry =
       decimal = decimal;
     }
 
--- "Logical operations .. make no decimal change, and set AC and 1BC to 0."; "in logical cycles both are off"
+-- "Logical operations .. make no decimal change, and set AC and 1BC to 0."; "in logical cycles both [lamps] are off"
 abbrev pub uncarried : ℕ → Uncorrected
 uncarried byte = record { byte = byte; ac = false; «one_bc» = false; «digit_carry» = false; decimal = false }
 

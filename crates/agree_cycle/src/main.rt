@@ -4,6 +4,7 @@ use libc::STDOUT_FILENO;
 use machine::Cycled;
 use machine::NextSum;
 use machine::State;
+use word::Fields;
 
 // A case: the word that stands at WX, the state, and how much of each storage is lent.
 struct Trial {
@@ -128,18 +129,49 @@ fn count(c: Cycled, counts: &mut [u32]) {
     agree::tally(counts, 256 + field_of(c) as usize);
 }
 
+fn is_decimal(f: Fields) -> bool {
+    (f.cv == 3) & ((f.cc != 2) & (f.cc != 3) & (f.cc != 7))
+}
+
+// A digit over 9 was chosen, and no gate let one in.
+fn is_kept_out(sum: NextSum) -> bool {
+    let NextSum::Sums(w) = sum else {
+        return false;
+    };
+    let chosen = digits::both_decimal(w.a_chosen) & digits::both_decimal(w.b_chosen);
+    let gated = digits::both_decimal(w.a_gated) & digits::both_decimal(w.b_gated);
+    !chosen & gated
+}
+
+// The place, or one past all counts.
+fn place(counted: bool, at: usize) -> usize {
+    if counted { at } else { 512 }
+}
+
+// What a cycle that ran shows: the digit carry at 110, invalid at 111, and at 112 a digit over 9 kept out of a decimal sum.
+fn count_lamps(word: u64, sum: NextSum, c: Cycled, counts: &mut [u32]) {
+    let s = state_of(c);
+    let ran = number_of(c) == 100;
+    let kept_out = is_decimal(word::fields_of(word)) & is_kept_out(sum);
+    agree::tally(counts, place(ran & s.digit_carry, 110));
+    agree::tally(counts, place(ran & s.invalid, 111));
+    agree::tally(counts, place(ran & kept_out, 112));
+}
+
 fn answered(
     digest: u64,
+    word: u64,
     store: &[u64],
     main: &mut [u8],
     local: &mut [u8],
     s: State,
     counts: &mut [u32],
 ) -> u64 {
-    let worked = mix_work(digest, machine::next_sum(store, s));
+    let sum = machine::next_sum(store, s);
     let answer = machine::cycle(store, main, local, s);
     count(answer, counts);
-    mix_answer(worked, answer, main, local, s)
+    count_lamps(word, sum, answer, counts);
+    mix_answer(mix_work(digest, sum), answer, main, local, s)
 }
 
 // The case with what is lent of each storage; its word is put first.
@@ -157,6 +189,7 @@ fn lend(
     let l = agree::at_most(c.lent.local, local.len());
     answered(
         digest,
+        c.word,
         &store[0..words],
         &mut main[0..m],
         &mut local[0..l],
@@ -211,10 +244,11 @@ fn report(counts: &[u32]) {
         io::print_decimal(STDOUT_FILENO, k as u64);
         agree::print_count(b"", agree::counted(counts, k));
     }
-    report_fields(counts);
+    report_rest(counts);
 }
 
-fn report_fields(counts: &[u32]) {
+// The fields that 10 names, and the lamps.
+fn report_rest(counts: &[u32]) {
     agree::print_count(b"CH", agree::counted(counts, 256 + 4));
     agree::print_count(b"CL", agree::counted(counts, 256 + 5));
     agree::print_count(b"CM", agree::counted(counts, 256 + 6));
@@ -225,6 +259,9 @@ fn report_fields(counts: &[u32]) {
     agree::print_count(b"CD", agree::counted(counts, 256 + 15));
     agree::print_count(b"CS", agree::counted(counts, 256 + 20));
     agree::print_count(b"AS", agree::counted(counts, 256 + 21));
+    agree::print_count(b"digit carry", agree::counted(counts, 110));
+    agree::print_count(b"invalid", agree::counted(counts, 111));
+    agree::print_count(b"kept out", agree::counted(counts, 112));
 }
 
 fn blocks(store: &mut [u64], main: &mut [u8], local: &mut [u8]) {

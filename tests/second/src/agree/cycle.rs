@@ -3,10 +3,11 @@
 use super::draw::{bits, drawn_state, near, word_for, Lent};
 use super::{digest_line, drawn_bytes, joined, mix_bytes, mix_state};
 use crate::adder::Work;
+use crate::bits::{high_digit, low_digit};
 use crate::cycle::{cycle, next_work, Answer};
 use crate::random::{mix, Random};
 use crate::state::{State, M, N};
-use crate::word::LAYOUT;
+use crate::word::{split, CC, CV, LAYOUT};
 
 /// A case: the word that stands at WX, the state, and how much of each storage is lent.
 struct Trial {
@@ -47,8 +48,8 @@ struct Storages {
     local: Vec<u8>,
 }
 
-/// The answer, and the digest after it, the state and the bytes that the state before it addresses.
-fn answer(digest: u64, trial: &Trial, store: &[u64], storages: &mut Storages) -> (Answer, u64) {
+/// The answer, the state after it, and the digest after both and the bytes that the state before them addresses.
+fn answer(digest: u64, trial: &Trial, store: &[u64], storages: &mut Storages) -> (Answer, State, u64) {
     let (main, local) = (&mut storages.main[..trial.lent.main], &mut storages.local[..trial.lent.local]);
     let mut state = trial.state;
     let answer = cycle(&store[..trial.lent.words], main, local, &mut state);
@@ -62,7 +63,7 @@ fn answer(digest: u64, trial: &Trial, store: &[u64], storages: &mut Storages) ->
     let byte = |bytes: &[u8], at: usize| u64::from(bytes.get(at).copied().unwrap_or(0));
     let digest = mix(digest, number as u64 * 256 + u64::from(field));
     let digest = mix_state(digest, &state);
-    (answer, mix(digest, byte(main, at) * 256 + byte(local, n)))
+    (answer, state, mix(digest, byte(main, at) * 256 + byte(local, n)))
 }
 
 /// The digest after the work of the next word, or after 0 where it would make no sum.
@@ -85,6 +86,17 @@ struct Counts {
     stopped: u32,
     refused: [u32; 12],
     field: [u32; 23],
+    digit_carry: u32,
+    invalid: u32,
+    kept_out: u32,
+}
+
+/// A decimal sum of which a digit over 9 was chosen, and none let in.
+fn keeps_out(word: u64, work: &Work) -> bool {
+    let over_9 = |bytes: [u8; 2]| bytes.iter().any(|byte| high_digit(*byte) > 9 || low_digit(*byte) > 9);
+    let fields = split(word);
+    let decimal = fields[CV] == 3 && ![2, 3, 7].contains(&fields[CC]);
+    decimal && over_9([work.a_chosen, work.b_chosen]) && !over_9([work.a_gated, work.b_gated])
 }
 
 impl Counts {
@@ -99,6 +111,13 @@ impl Counts {
         }
     }
 
+    /// The lamps after a cycle that ran.
+    fn count_lamps(&mut self, word: u64, work: &Work, after: &State) {
+        self.digit_carry += u32::from(after.digit_carry);
+        self.invalid += u32::from(after.invalid);
+        self.kept_out += u32::from(keeps_out(word, work));
+    }
+
     fn report(&self) -> String {
         let mut text = format!("ran {}\nstopped {}\n", self.ran, self.stopped);
         for number in 1..12 {
@@ -108,7 +127,7 @@ impl Counts {
             let place = LAYOUT.iter().position(|(field, _)| *field == name).unwrap();
             text += &format!("{name} {}\n", self.field[place + 1]);
         }
-        text
+        text + &format!("digit carry {}\ninvalid {}\nkept out {}\n", self.digit_carry, self.invalid, self.kept_out)
     }
 }
 
@@ -123,9 +142,12 @@ pub fn text() -> String {
             if let Some(word) = store.get_mut(usize::from(trial.state.wx)) {
                 *word = trial.word;
             }
-            digest = mix_work(digest, next_work(&store[..trial.lent.words], &trial.state));
-            let (answer, after) = answer(digest, &trial, &store, &mut storages);
+            let work = next_work(&store[..trial.lent.words], &trial.state);
+            let (answer, state, after) = answer(mix_work(digest, work), &trial, &store, &mut storages);
             counts.count(answer);
+            if let (Answer::Ran, Some(work)) = (answer, &work) {
+                counts.count_lamps(trial.word, work, &state);
+            }
             digest = after;
         }
         digest = mix_bytes(mix_bytes(digest, &storages.main), &storages.local);
