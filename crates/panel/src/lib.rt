@@ -93,8 +93,7 @@ fn save(s: State, state: &mut [u8])
     requires { ⌜ recordLength ≤ length (now state) ⌝ }
     ensures { λ _. ⌜ now (state .exit) ≡ over (saved s) (now (state .entry)) ⌝ }
 {
-    let shown = channels::saved(s);
-    digits::copy(&shown[0..STATE], state);
+    digits::copy(&channels::saved(s), state);
 }
 
 // One cycle, as a run of one, so that a cycle has one caller. The record is written by a cycle that ran, and by nothing else.
@@ -162,8 +161,7 @@ fn save_work(w: Work, work: &mut [u8])
     requires { ⌜ 8 ≤ length (now work) ⌝ }
     ensures { λ _. ⌜ now (work .exit) ≡ over (worked w) (now (work .entry)) ⌝ }
 {
-    let shown = channels::worked(w);
-    digits::copy(&shown[0..8], work);
+    digits::copy(&channels::worked(w), work);
 }
 
 // The work of the word that would run next.

@@ -153,7 +153,8 @@ fn the_channels_are_those_of_the_record() {
 /// A row of the page's channels: its first and last byte, and the constants between.
 fn page_row(line: &str) -> Option<(usize, usize, Vec<String>)> {
     let mut cells = line.trim_matches('|').split('|').map(str::trim);
-    let (first, last) = cells.next()?.split_once(" to ")?;
+    let bytes = cells.next()?;
+    let (first, last) = bytes.split_once(" to ").unwrap_or((bytes, bytes));
     let constants = cells.next()?.split(' ').map(|name| name.trim_matches('`').to_owned()).collect();
     Some((first.parse().ok()?, last.parse().ok()?, constants))
 }

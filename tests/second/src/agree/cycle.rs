@@ -3,7 +3,7 @@
 use super::draw::{bits, drawn_state, near, word_for, Lent};
 use super::{digest_line, drawn_bytes, joined, mix_bytes, mix_state};
 use crate::adder::Work;
-use crate::bits::{high_digit, low_digit};
+use crate::bits::both_decimal;
 use crate::cycle::{cycle, next_work, Answer};
 use crate::random::{mix, Random};
 use crate::state::{State, M, N};
@@ -93,7 +93,7 @@ struct Counts {
 
 /// A decimal sum of which a digit over 9 was chosen, and none let in.
 fn keeps_out(word: u64, work: &Work) -> bool {
-    let over_9 = |bytes: [u8; 2]| bytes.iter().any(|byte| high_digit(*byte) > 9 || low_digit(*byte) > 9);
+    let over_9 = |bytes: [u8; 2]| !bytes.into_iter().all(both_decimal);
     let fields = split(word);
     let decimal = fields[CV] == 3 && ![2, 3, 7].contains(&fields[CC]);
     decimal && over_9([work.a_chosen, work.b_chosen]) && !over_9([work.a_gated, work.b_gated])
