@@ -211,9 +211,9 @@ pub fn add(a: u8, b: u8, c: Controls) -> Sum
     let a_gated = gated_a(c.cf, a);
     let b_gated = gated_b(c.cg, b);
     let b_entering = entering_b(b_gated, c);
+    let invalid = is_invalid(decimal, a_gated, b_gated);
     let carry = carry_in(c.cc, c.s3);
-    let sum = operated(c.cc, decimal, a_gated, b_entering, carry);
-    finished(is_invalid(decimal, a_gated, b_gated), sum)
+    finished(invalid, operated(c.cc, decimal, a_gated, b_entering, carry))
 }
 
 // What the unit does with the bytes that CA and CB chose, step by step. It corrects by itself: with two callers a large correction

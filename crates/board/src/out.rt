@@ -45,7 +45,7 @@ pub fn flush(out: Out, room: &[u8]) -> Out
     }
 }
 
-// With room for the next text, the longest of which is the walk's 10,318 bytes.
+// With room for the next text: the longest, the walk, takes less than half.
 pub fn ready(out: Out, room: &[u8]) -> Out
     ensures { λ r. ⌜ r .waiting ≤ length (now (room .entry)) ⌝ }
 {

@@ -2,6 +2,6 @@ mod Arms
 mod Inside
 mod Scan
 pub mod Cycles
-pub mod Lamps
+pub mod Unread
 pub mod Promises
 pub mod Bytes

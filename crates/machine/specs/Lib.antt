@@ -4,4 +4,4 @@ pub mod Storage
 pub mod Status
 pub mod Modelled
 pub mod Cycle
-pub mod Lamps
+pub mod Unread

@@ -3,4 +3,4 @@ pub mod Goes
 pub mod Promises
 pub mod Divided
 pub mod Quiet
-pub mod Lamps
+pub mod Unread

@@ -1,3 +1,3 @@
 pub mod Run
 pub mod Divided
-pub mod Lamps
+pub mod Unread

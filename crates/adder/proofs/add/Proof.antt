@@ -8,10 +8,10 @@ use Rattle.adder.proofs.add.Tie as tie
 returns : tie.Need-returns
 unfolding sumOf
 returns c =
-    let judged = c .before in
-    let summed = judged .before in
+    let summed = c .before in
     let carried = summed .before in
-    let entered = carried .before in
+    let judged = carried .before in
+    let entered = judged .before in
     let gated = entered .before in
     let controls = gated .before .before .before .args .c in
     let decimal = gated .before .before .is-decimal .ensures in

@@ -5,12 +5,12 @@ use mathlib.Core.List.{List}
 use mathlib.Core.Bool.{Bool, cond}
 use lib.Dec.{eqb}
 use Rattle.machine.specs.Cycle.{Outcome}
-use Rattle.machine.specs.Lamps.{withLamps}
+use Rattle.machine.specs.Unread.{withLamps}
 use Rattle.machine.specs.declared.State.{State}
 use Rattle.run.specs.Run.{ended, runOf}
 use Rattle.run.specs.declared.Finished.{Finished}
 
--- the run with these two lamps at its start: they are still lit so where no cycle ran
+-- the run from a state with these two lamps: where no cycle ran they are as they were
 abbrev pub runWith : Bool → Bool → Outcome Finished → Outcome Finished
 runWith carry invalid r =
     ended (r .answer .ending) (cond (eqb (r .answer .count) 0) (withLamps carry invalid (r .answer .state)) (r .answer .state)) (r .answer .count) (r .main) (r .local)

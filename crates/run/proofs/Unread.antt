@@ -8,13 +8,13 @@ use borrow.Author.Tests.{ne-eqb}
 use lib.ListN.{length}
 use Rattle.digits.specs.Refusal.{first}
 use Rattle.machine.specs.Cycle.{Outcome, cycleOf}
-use Rattle.machine.specs.Lamps.{withLamps, answerWith}
+use Rattle.machine.specs.Unread.{withLamps, answerWith}
 use Rattle.machine.specs.declared.State.{State}
 use Rattle.machine.specs.declared.Cycled.{Cycled}
 use Rattle.machine.specs.declared.Cycled.the-variants as C
-use Rattle.machine.proofs.Lamps.{cycle-unread}
+use Rattle.machine.proofs.Unread.{cycle-unread}
 use Rattle.run.specs.Run.{onward, cyclesOf, runChecks, runBy, runOf}
-use Rattle.run.specs.Lamps.{runWith, RunUnread}
+use Rattle.run.specs.Unread.{runWith, RunUnread}
 use Rattle.run.specs.declared.Finished.{Finished}
 use Rattle.run.proofs.Runs.{spent, turn}
 use Rattle.run.proofs.Goes.{machine, done}

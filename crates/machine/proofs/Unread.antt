@@ -10,7 +10,7 @@ use Rattle.machine.specs.Sources.{entered, sumIn}
 use Rattle.machine.specs.Branch.{nextOf}
 use Rattle.machine.specs.Storage.{accessOf}
 use Rattle.machine.specs.Cycle.{Outcome, outcome, stops, cycleChecks, wordAt, ranOf, decided, cycleOf}
-use Rattle.machine.specs.Lamps.{withLamps, answerWith, CycleUnread}
+use Rattle.machine.specs.Unread.{withLamps, answerWith, CycleUnread}
 use Rattle.machine.specs.declared.State.{State}
 use Rattle.machine.specs.declared.Cycled.{Cycled}
 
