@@ -203,7 +203,7 @@ fn finished(invalid: bool, u: Uncorrected) -> Sum
     }
 }
 
-// The result and its latches.
+// The result and its latches. The inputs are judged before the sum: behind it the compiler makes jumps of that (docs/BENCHMARK.md).
 pub fn add(a: u8, b: u8, c: Controls) -> Sum
     ensures { λ r. ⌜ r ≡ sumOf a b c ⌝ }
 {
