@@ -5,7 +5,7 @@ use mathlib.Core.Bool.{Bool, true, false, cond, not, _&&_}
 use mathlib.Core.Logic.{_↔_}
 use native.Mathlib.Nat.{lt-of-le-of-lt}
 use native.Mathlib.Omega.{arith}
-use lib.Bits.{bitAnd, bitOr, bitXor, and-le-l, or-lt, xor-lt}
+use lib.Bits.{and-le-l, or-lt, xor-lt}
 use lib.Dec.{leb}
 use lib.Pow.{field, mod-mod-pow}
 use borrow.Author.Tests.{leb-true, leb-false, le-leb, eqb-true, eq-eqb}
@@ -15,7 +15,7 @@ use Rattle.digits.specs.Digits.{high, low, digits, bothDecimal, val}
 use Rattle.rule.specs.Correction.{lowered}
 use Rattle.rule.proofs.Laws.{lowered-lt}
 use Rattle.adder.specs.Gates.{gatedA, gatedB}
-use Rattle.adder.specs.Adder.{isDecimal, isComplement, complement, turned, sixes, summed, uncarried, resultOf, finished, carryIn, operations, operated, enteringB, sumOf}
+use Rattle.adder.specs.Adder.{isDecimal, isComplement, complement, turned, sixes, summed, resultOf, finished, carryIn, operations, enteringB, sumOf}
 use Rattle.adder.specs.declared.Controls.{Controls}
 use Rattle.adder.specs.declared.Uncorrected.{Uncorrected}
 use Rattle.adder.specs.declared.Sum.{Sum}
@@ -201,13 +201,6 @@ entering-byte : (six complemented : Bool) (b : ℕ) → b < 256 → cond six (si
 entering-byte true complemented b h = omega arith
 entering-byte false complemented b h = turned-byte complemented b h
 
--- what holds of every sum, and of the logical results, holds of the row at any CC
-module _ (P : Uncorrected → Type 0) (sums : (decimal : Bool) (a b c : ℕ) → P (summed decimal a b c)) (d : Bool) (x e : ℕ) (k : Bool) where
-  any-row : P (uncarried (bitAnd x e)) → P (uncarried (bitOr x e)) → P (uncarried (bitXor x e)) → (cc : ℕ) → P (operated cc d x e k)
-  any-row and or xor cc =
-      let sum : P (summed d x e (one k)) = sums d x e (one k) in
-      any P (operations d x e k) (summed d x e (one k)) (sum, (sum, (and, (or, (sum, (sum, (sum, (xor, tt)))))))) sum cc
-
 module _ (a b : ℕ) (c : Controls) where
   abbrev the-a : ℕ
   the-a = gatedA (c .cf) a
@@ -215,14 +208,19 @@ module _ (a b : ℕ) (c : Controls) where
   abbrev the-b : ℕ
   the-b = enteringB (gatedB (c .cg) b) c
 
-  -- bytes stay bytes
+  -- bytes stay bytes, in each row of CC
   pub sum-byte : a < 256 → b < 256 → sumOf a b c .result < 256
   unfolding sumOf resultOf
   sum-byte ab bb =
+      let decimal = isDecimal (c .cv) (c .cc) in
+      let carry = carryIn (c .cc) (c .s3) in
       let x = gated-a-lt (c .cf) a ab in
-      let e = entering-byte (isDecimal (c .cv) (c .cc) && not (isComplement (c .cv) (c .s0))) (isComplement (c .cv) (c .s0)) (gatedB (c .cg) b) (gated-b-lt (c .cg) b bb) in
-      any-row (λ (u : Uncorrected). resultOf u < 256) arithmetic-byte (isDecimal (c .cv) (c .cc)) the-a the-b (carryIn (c .cc) (c .s3))
-      (lt-of-le-of-lt (and-le-l the-a the-b) x) (or-lt 8 the-a the-b x e) (xor-lt 8 the-a the-b x e) (c .cc)
+      let e = entering-byte (decimal && not (isComplement (c .cv) (c .s0))) (isComplement (c .cv) (c .s0)) (gatedB (c .cg) b) (gated-b-lt (c .cg) b bb) in
+      let sum = arithmetic-byte decimal the-a the-b (one carry) in
+      let and = lt-of-le-of-lt (and-le-l the-a the-b) x in
+      let or = or-lt 8 the-a the-b x e in
+      let xor = xor-lt 8 the-a the-b x e in
+      any (λ (u : Uncorrected). resultOf u < 256) (operations decimal the-a the-b carry) (summed decimal the-a the-b (one carry)) (sum, (sum, (and, (or, (sum, (sum, (sum, (xor, tt)))))))) sum (c .cc)
 
   pub zero-exactly : (sumOf a b c .z0 ≡ true) ↔ (sumOf a b c .result ≡ 0)
   unfolding sumOf

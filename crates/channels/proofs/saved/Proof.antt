@@ -1,4 +1,6 @@
 -- A byte to a channel. Assumes nothing.
+use Prim.Native.Nat.{_/_, _%_}
+use mathlib.Core.List.{[], _∷_}
 use Rattle.channels.specs.Channels.{saved}
 use borrow.Author.Needs.{needs}
 use Rattle.channels.proofs.saved.Statement.{statement}
@@ -16,7 +18,18 @@ returns c =
     let z = allow .before in
     let bc = z .before in
     let ac = bc .before in
-    rw (ac .one .ensures .0, bc .one2 .ensures .0, z .one3 .ensures .0, allow .one4 .ensures .0, local .one5 .ensures .0, arriving .one6 .ensures .0, carry .one7 .ensures .0, invalid .one8 .ensures .0)
+    let s = ac .before .before .before .args .s in
+    λ k. s .i ∷ s .j ∷ s .u ∷ s .v ∷ s .l ∷ s .t ∷ s .d ∷ s .r ∷ s .s ∷ s .g ∷ s .h ∷ s .m ∷ s .n ∷ s .wx / 256 ∷ s .wx % 256
+    ∷ ac .one .ensures .0 k
+    ∷ bc .one2 .ensures .0 k
+    ∷ z .one3 .ensures .0 k
+    ∷ allow .one4 .ensures .0 k
+    ∷ local .one5 .ensures .0 k
+    ∷ arriving .one6 .ensures .0 k
+    ∷ s .«arriving_byte»
+    ∷ carry .one7 .ensures .0 k
+    ∷ invalid .one8 .ensures .0 k
+    ∷ []
 
 pub saved-spec : {M : Type 1} → statement M
 saved-spec =

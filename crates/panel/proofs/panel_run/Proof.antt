@@ -6,7 +6,7 @@ use Rattle.panel.proofs.panel_run.Statement.{statement}
 use Rattle.panel.proofs.panel_run.Tie as tie
 
 returns : tie.Need-returns
-returns c = run-short _ _ _ _ _ _ _ (c .before .before .if1 .taken) (c .before .coded .ensures) (c .counted .ensures)
+returns c = run-short _ _ _ (c .before .before .before .before .before .before .before .args .state .now) _ _ _ (c .before .before .if1 .taken) (c .before .coded .ensures) (c .counted .ensures)
 
 returns-2 : tie.Need-returns-2
 returns-2 c = run-any _ _ _ _ _ _ _ _ _ _ _ _ (c .before .before .before .before .before .before .before .before .before .before .before .before .before .before .before .before .if1 .left) (c .before .before .before .before .before .before .before .before .before .before .before .before .loaded .ensures) (c .before .before .before .before .before .before .before .before .before .before .before .run .ensures) (c .before .before .before .before .save-after .ensures) (c .before .ending-code .ensures) (c .counted2 .ensures)
