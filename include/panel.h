@@ -28,7 +28,8 @@ enum panel_channel {
     PANEL_ARRIVING, PANEL_ARRIVING_BYTE,
     PANEL_DIGIT_CARRY,  /* the carry out of the low digit; off in a logical cycle */
     PANEL_INVALID,      /* a digit over 9 on an input of a decimal cycle, as gated */
-    PANEL_STATE     /* = 24, the record's length */
+    PANEL_FWX_HIGH, PANEL_FWX_LOW, PANEL_OWED,  /* FWX, 16 bits; a return is owed */
+    PANEL_STATE     /* = 27, the record's length */
 };
 
 enum panel_kind { PANEL_RAN = 0, PANEL_STOPPED = 1, PANEL_REFUSED = 2, PANEL_SPENT = 3, PANEL_SUMMED = 4, PANEL_BAD_DIGIT = 5 };
@@ -76,6 +77,11 @@ uint32_t panel_shipped(uint64_t *words, size_t room);
 /* As panel_start and panel_shipped, for the words of AP and SP. subtract: off at 0, on otherwise. */
 uint32_t panel_start_signed(uint16_t first, uint16_t second, uint8_t length, uint8_t subtract, uint8_t *state, size_t state_len);
 uint32_t panel_shipped_signed(uint64_t *words, size_t room);
+
+/* A trap between two cycles: 0, or 19, 29 or 30, and then nothing is changed. 19 where fewer than PANEL_STATE bytes of
+ * state are lent, checked first; 29 while a return is owed; 30 for an address over 4,095. A trap that is taken writes WX,
+ * FWX and OWED, and no other byte. */
+uint32_t panel_trap(uint32_t address, uint8_t *state, size_t state_len);
 
 /* Decimal add: first field += second field. kind (PANEL_SUMMED, PANEL_BAD_DIGIT or PANEL_REFUSED)
  * + 256 * refusal number + 65536 * carry out + 2^32 * the cycles that ran. carry_in: off at 0, on otherwise. */

@@ -2,7 +2,8 @@
  * add 38, 47 and a carry by the shipped words, a cycle at a time, and look into the adder before each cycle. Then make
  * that addition on two panels, one with the single-cycle button and then the run button, one with the run button alone.
  * Then add with the six already in D, and see the lamp that tells. Then read a signed field, write its number back, and
- * read one whose sign is bad. Last, subtract with signs. build.sh beside this file builds and runs it.
+ * read one whose sign is bad. Then subtract with signs. Last, break into an addition by a trap. build.sh beside this file
+ * builds and runs it.
  */
 #include "../../include/panel.h"
 
@@ -10,7 +11,7 @@ int printf(const char *format, ...); /* of the C library, whose headers the kit 
 
 static const char *const names[PANEL_STATE] = {
     "I", "J", "U", "V", "L", "T", "D", "R", "S", "G", "H", "M", "N", "WX high", "WX low", "AC", "1BC", "Z0",
-    "allow write", "local", "arriving", "arriving byte", "digit carry", "invalid"};
+    "allow write", "local", "arriving", "arriving byte", "digit carry", "invalid", "FWX high", "FWX low", "owed"};
 
 static uint8_t main_storage[256];
 static uint8_t local_storage[256];
@@ -150,7 +151,32 @@ static int with_signs(void) {
     return less % 256 != PANEL_SUMMED || more % 256 != PANEL_SUMMED;
 }
 
+static unsigned wx(const struct panel *p) { return p->state[PANEL_WX_HIGH] * 256u + p->state[PANEL_WX_LOW]; }
+
+/* Behind the shipped words, at 15 and 16: G + 1 goes to G; and the return word, CU 3 with CM 1, which changes nothing else. */
+static int routine(uint64_t *words) {
+    static const uint8_t counts[18] = {5, 1, 0, 1, 0, 10, 0, 0, 0, 0, 0, 10, 3, 0, 0, 1, 0, 0};
+    static const uint8_t returns[18] = {0, 0, 0, 1, 3, 4, 0, 0, 0, 0, 0, 0, 0, 0, 0, 0, 0, 0};
+    return panel_pack(counts, sizeof counts, 0x15, words, 1) == 0 && panel_pack(returns, sizeof returns, 0x16, words + 1, 1) == 0;
+}
+
+/* The addition once more: before its ninth cycle an input request breaks in, and a second one while the first is open. */
+static int broken_into(void) {
+    static struct panel p;
+    uint64_t words[64];
+    uint32_t count = panel_shipped(words, 62);
+    if (count != 21 || !routine(words + count) || !lay(&p) || run(&p, words, 23, 8) % 256 != PANEL_SPENT) return 1;
+    printf("trap to 015, from %03X: %u\n", wx(&p), panel_trap(0x15, p.state, sizeof p.state));
+    printf("a second trap: %u\n", panel_trap(0x16, p.state, sizeof p.state));
+    if (press(&p, words, 23) != PANEL_RAN || press(&p, words, 23) != PANEL_RAN) return 1;
+    printf("two cycles later at %03X, G %02X, return owed %u\n", wx(&p), p.state[PANEL_G], p.state[PANEL_OWED]);
+    uint64_t rest = run(&p, words, 23, 90);
+    printf("38 + 47 + 1 = %02X\n", p.main[0x10]);
+    return rest % 256 != PANEL_STOPPED;
+}
+
 int main(void) {
     return one_cycle_of_p() != 0 || shipped_words() != 0 || two_buttons() != 0 || six_by_hand(0x47) != 0 ||
-           six_by_hand(0xAD) != 0 || signed_fields() != 0 || with_signs() != 0;
+           six_by_hand(0xAD) != 0 || signed_fields() != 0 || with_signs() != 0 ||
+           broken_into() != 0;
 }

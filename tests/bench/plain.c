@@ -19,13 +19,13 @@ static int over_9(u8 byte) { return (byte >> 4) > 9 || (byte & 15) > 9; }
 
 // 3 to 9, or 0.
 static int fault(u64 w, u32 at) {
-    int ca_to_w = (w >> 39 & 15) == 2, k_to_w = (w >> 36 & 7) < 3 && (w >> 34 & 3) == 2;
+    int ca_to_w = (w >> 39 & 15) == 2, low_cm = (w >> 36 & 7) < 3, k_to_w = low_cm && (w >> 34 & 3) == 2;
     if (w >> 55) return 3;
     if (!odd(w & 0x7F000000000000)) return 4;
     if (!(odd(at & 4095) ^ (w >> 47 & 1))) return 5;
     if (!odd(w & 0xFFFFDFB00000)) return 6;
     if (!odd(w & 0xFFFFF)) return 7;
-    if (ca_to_w && k_to_w) return 8;
+    if (ca_to_w && low_cm && (w >> 35 & 1)) return 8;
     if (ca_to_w && !odd(w & 0x3E0200000)) return 9;
     if (k_to_w && !odd(w & 0x7A00000)) return 9;
     return 0;
@@ -39,7 +39,7 @@ static int unmodelled(u64 w) {
     if (no_ch >> (w >> 43 & 15) & 1) return 4;
     if (no_cl >> (w >> 39 & 15) & 1) return 5;
     if (cm > 5) return 6;
-    if (cm < 3 ? cu & 1 : cu == 2) return 7;
+    if (cu == (cm < 3 ? 1 : 2)) return 7;
     if ((w >> 39 & 15) != 2 && no_ca >> (w >> 30 & 15) & 1) return 8;
     if (w >> 29 & 1) return 9;
     if (w >> 22 & 1) return 12;
@@ -182,6 +182,7 @@ static int cycle(const u64 *store, u64 words, u8 *main, u64 bytes, u8 *local, st
     t.reg[S] = status(w >> 2 & 15, t.reg[S], z);
     if (cc >= 4 && cc <= 6) t.reg[S] = set(t.reg[S], 3, t.ac);
     t.wx = module << 8 | x;
+    if (!reads && cu == 3) t.wx = t.fwx, t.owed = 0;
     *s = t;
     return 0;
 }

@@ -1,8 +1,8 @@
 // The plain engine's state: I J U V L T D R S G H M N, one more byte that reads as zero, and the rest.
 struct plain {
     unsigned char reg[14];
-    unsigned short wx;
-    unsigned char ac, bc1, z0, allow, local, arriving, byte, digit_carry, invalid;
+    unsigned short wx, fwx;
+    unsigned char ac, bc1, z0, allow, local, arriving, byte, digit_carry, invalid, owed;
 };
 
 unsigned long plain_run(const unsigned long *store, unsigned long words, unsigned char *main, unsigned long bytes,

@@ -174,6 +174,11 @@ static uint64_t called(int call) {
         return (call == 14 ? panel_add_signed : panel_sub_signed)(main, count_of(0), local, count_of(1), first, second,
                                                                   length);
     }
+    case 16: {
+        uint32_t address = (uint32_t)number();
+        uint8_t *state = slice(1);
+        return panel_trap(address, state, count_of(0));
+    }
     default:
         exit(6);
         return 0;

@@ -21,13 +21,13 @@ fn pick(codes: [u8; 16], x: u64) -> u8 {
     codes[(x % 16) as usize]
 }
 
-// A modelled CU beside these two, with which CA and K do not both go to W.
+// A modelled CU beside these two, with which CA and K do not both go to W: one of 8 that may is a return.
 fn drawn_cu(cl: u8, cm: u8, x: u64) -> u8 {
     if cm < 3 {
         if cl == 2 {
             return 0;
         }
-        return (x % 2 * 2) as u8;
+        return [0, 0, 0, 0, 2, 2, 2, 3][(x % 8) as usize];
     }
     if x % 4 == 2 {
         return 0;
@@ -51,7 +51,7 @@ fn right_pk(cl: u8, cm: u8, cu: u8, ca: u8, aa: u8, ck: u8, pk: u8) -> u8 {
     pk
 }
 
-fn with_right_pk(f: Fields) -> Fields {
+pub fn with_right_pk(f: Fields) -> Fields {
     Fields {
         pk: right_pk(f.cl, f.cm, f.cu, f.ca, f.aa, f.ck, f.pk),
         ..f
@@ -152,8 +152,17 @@ pub fn packed(f: Fields, address: u32) -> u64 {
     }
 }
 
+// What turns CU of a word that sends CA to W: to 2, with PS, so that K goes there too; or to 3, the return.
+fn twice(x: u64) -> u64 {
+    if x % 2 == 0 {
+        0x8_0010_0000
+    } else {
+        0xC_0000_0000
+    }
+}
+
 // A word for the address, which by 64 kinds of `x` is modelled, has one field of any code, has all of any code, is
-// damaged in one bit, stands at another address, sends both CA and K to W, has PK turned, or is any 55 bits.
+// damaged in one bit, stands at another address, sends CA to W beside K or a return, has PK turned, or is any 55 bits.
 pub fn word_for(a: u64, b: u64, x: u64, address: u32) -> u64 {
     let kind = x % 64;
     let rest = x / 64;
@@ -176,10 +185,41 @@ pub fn word_for(a: u64, b: u64, x: u64, address: u32) -> u64 {
         return packed(modelled(a, b), (rest % 4096) as u32);
     }
     if kind < 62 {
-        return packed(to_w(modelled(a, b)), address) ^ 0x8_0010_0000;
+        return packed(to_w(modelled(a, b)), address) ^ twice(rest);
     }
     if kind < 63 {
         return packed(modelled(a, b), address) ^ 0x30_0000;
     }
     a / 512
+}
+
+// Of 256 words how many are of any kind, as many again being stops.
+pub fn drawn_rate(x: u64) -> u64 {
+    [0, 0, 1, 1, 1, 2, 8, 32][(x % 8) as usize]
+}
+
+// A word of a run's store.
+fn store_word(a: u64, b: u64, x: u64, rate: u64, address: u32) -> u64 {
+    let roll = x % 256;
+    if roll < rate {
+        // A kind that is seldom a word that runs.
+        return word_for(a, b, x / 0x1_0000 * 64 + 44 + x / 256 % 20, address);
+    }
+    let f = modelled(a, b);
+    if roll / 2 < rate {
+        return packed(Fields { cf: 4, ..f }, address);
+    }
+    packed(f, address)
+}
+
+// Words in all of the store; the generator's last number is the answer.
+pub fn fill_store(x: u64, rate: u64, store: &mut [u64]) -> u64 {
+    let mut x = x;
+    for k in 0..store.len() {
+        let a = crate::next(x);
+        let b = crate::next(a);
+        x = crate::next(b);
+        store[k] = store_word(a, b, x, rate, (k % 4096) as u32);
+    }
+    x
 }

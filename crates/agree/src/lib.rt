@@ -3,9 +3,12 @@ mod draw;
 mod fields;
 mod state;
 
+pub use draw::drawn_rate;
+pub use draw::fill_store;
 pub use draw::modelled;
 pub use draw::packed;
 pub use draw::raw;
+pub use draw::with_right_pk;
 pub use draw::word_for;
 pub use fields::Trial;
 pub use fields::drawn_fields;

@@ -1,6 +1,15 @@
 // Drawn states, and the digest of a state.
 use machine::State;
 
+// One FWX of 16 is any number, and the others have 12 bits.
+fn drawn_fwx(c: u64, e: u64) -> u16 {
+    let x = ((c / 0x1000) ^ (e / 0x100)) % 65536;
+    if e / 0x2_0000_0000_0000 % 16 == 0 {
+        return x as u16;
+    }
+    (x % 4096) as u16
+}
+
 pub fn drawn_state(c: u64, e: u64, wx: u16) -> State {
     State {
         i: (c % 256) as u8,
@@ -26,6 +35,8 @@ pub fn drawn_state(c: u64, e: u64, wx: u16) -> State {
         arriving_byte: (e / 0x100_0000_0000_0000) as u8,
         digit_carry: e / 0x4000_0000_0000 % 2 == 1,
         invalid: e / 0x8000_0000_0000 % 2 == 1,
+        fwx: drawn_fwx(c, e),
+        owed: e / 0x1_0000_0000_0000 % 2 == 1,
     }
 }
 
@@ -77,11 +88,17 @@ fn latches(s: State) -> u64 {
         + s.arriving_byte as u64
 }
 
+// Where a return leads, and whether it is owed, as one number.
+fn return_of(owed: bool, fwx: u16) -> u64 {
+    digits::one(owed) as u64 * 65536 + fwx as u64
+}
+
 // The digest after all of a state.
 pub fn mix_state(digest: u64, s: State) -> u64 {
     let first = eight(s.i, s.j, s.u, s.v, s.l, s.t, s.d, s.r);
     let x_low = (s.wx % 256) as u8;
     let w_high = (s.wx / 256) as u8;
     let second = eight(s.s, s.g, s.h, s.m, s.n, 0, w_high, x_low);
-    crate::mix(crate::mix(crate::mix(digest, first), second), latches(s))
+    let d = crate::mix(crate::mix(crate::mix(digest, first), second), latches(s));
+    crate::mix(d, return_of(s.owed, s.fwx))
 }

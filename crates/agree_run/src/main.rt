@@ -4,10 +4,9 @@ use libc::STDOUT_FILENO;
 use machine::State;
 use run::Ending;
 use run::Finished;
-use word::Fields;
 
-// A run: the state that it starts from, how much of each storage is lent, its budget, and of 256 words how many are
-// of any kind, as many again being stops.
+// A run: the state that it starts from, how much of each storage is lent, its budget, and the rate of
+// words that seldom run.
 struct Trial {
     state: State,
     lent: Lent,
@@ -55,10 +54,6 @@ fn drawn_budget(x: u64, seldom: u64) -> u32 {
     ][(x % 16) as usize]
 }
 
-fn drawn_rate(x: u64) -> u64 {
-    [0, 0, 1, 1, 1, 2, 8, 32][(x % 8) as usize]
-}
-
 fn drawn(a: u64, c: u64, e: u64) -> Trial {
     let wx = (a / 0x1_0000_0000 % 256) as u16;
     let lent = Lent {
@@ -70,34 +65,8 @@ fn drawn(a: u64, c: u64, e: u64) -> Trial {
         state: agree::drawn_state(c, e, wx),
         lent: agree::seldom_wrong(a % 256, lent),
         budget: drawn_budget(a / 0x4000, a / 0x100_0000_0000),
-        rate: drawn_rate(a / 0x4_0000),
+        rate: agree::drawn_rate(a / 0x4_0000),
     }
-}
-
-// A word of a run's store.
-fn store_word(a: u64, b: u64, x: u64, rate: u64, address: u32) -> u64 {
-    let roll = x % 256;
-    if roll < rate {
-        // A kind that is seldom a word that runs.
-        return agree::word_for(a, b, x / 0x1_0000 * 64 + 44 + x / 256 % 20, address);
-    }
-    let f = agree::modelled(a, b);
-    if roll / 2 < rate {
-        return agree::packed(Fields { cf: 4, ..f }, address);
-    }
-    agree::packed(f, address)
-}
-
-// Words in all of the store; the generator's last number is the answer.
-fn fill_store(x: u64, rate: u64, store: &mut [u64]) -> u64 {
-    let mut x = x;
-    for k in 0..store.len() {
-        let a = agree::next(x);
-        let b = agree::next(a);
-        x = agree::next(b);
-        store[k] = store_word(a, b, x, rate, (k % 4096) as u32);
-    }
-    x
 }
 
 // Where an ending is counted: a refusal at its number, stopped at 101 and spent at 102.
@@ -180,7 +149,7 @@ fn case(
     let c = agree::next(a);
     let e = agree::next(c);
     let t = drawn(a, c, e);
-    let x = fill_store(e, t.rate, store);
+    let x = agree::fill_store(e, t.rate, store);
     let done = lend(t, g, store, main, local, counts);
     Going { x: x, ..done }
 }

@@ -13,7 +13,7 @@ use lib.Pow.{pow-add, pow-mono}
 use lib.Seq.{drop-cons, drop-drop, getD-drop, getD-set-same, drop-set-lt}
 use Rattle.digits.proofs.Truth.{both}
 use Rattle.text.specs.Ascii.{ascii}
-use Rattle.arguments.specs.Arguments.{between, digitValue, allDigits, digitsFit, valueFrom, numberFits, capitalOf, names, placeIn, placeOf, byteForm, addressForm, limitForm, givenOf, digitFromLast, laid}
+use Rattle.arguments.specs.Arguments.{between, digitValue, allDigits, digitsFit, valueFrom, numberFits, capitalOf, names, placeIn, placeOf, byteForm, addressForm, limitForm, cycleFits, trapCycle, trapAddress, trapForm, givenOf, digitFromLast, laid}
 use Rattle.arguments.specs.declared.Given.the-variants as G
 
 pub inside : (low high c : ℕ) → between low high c ≡ true → (low ≤ c) × (c ≤ high)
@@ -111,6 +111,13 @@ pub limit-short : (name text : List ℕ) → limitForm name text ≡ true → le
 unfolding limitForm
 limit-short name text t = number-short (drop (length name + 1) text) (both (names name text) (numberFits (drop (length name + 1) text)) t .1)
 
+pub trap-short : (text : List ℕ) → trapForm text ≡ true → (length (trapCycle text) ≤ 7) × (length (trapAddress text) ≤ 4)
+unfolding trapForm
+trap-short text t =
+    let (_, rest) = both (names (ascii "TRAP") text) (cycleFits (trapCycle text) && digitsFit 16 4 (trapAddress text)) t in
+    let (cycle, address) = both (cycleFits (trapCycle text)) (digitsFit 16 4 (trapAddress text)) rest in
+    (number-short (trapCycle text) (both (numberFits (trapCycle text)) (ltb 0 (valueFrom 10 0 (trapCycle text))) cycle .0), fit-short 16 4 (trapAddress text) address)
+
 module _ (text : List ℕ) where
   pub gives-byte : byteForm text ≡ true → givenOf text ≡ G.Register (placeOf text) (valueFrom 16 0 (drop 2 text))
   unfolding givenOf
@@ -128,9 +135,13 @@ module _ (text : List ℕ) where
   unfolding givenOf
   gives-to a b c d = rw (a, b, c, d)
 
-  pub gives-none : byteForm text ≡ false → addressForm text ≡ false → limitForm (ascii "FROM") text ≡ false → limitForm (ascii "TO") text ≡ false → givenOf text ≡ G.Wrong
+  pub gives-trap : byteForm text ≡ false → addressForm text ≡ false → limitForm (ascii "FROM") text ≡ false → limitForm (ascii "TO") text ≡ false → trapForm text ≡ true → givenOf text ≡ G.Trap (valueFrom 10 0 (trapCycle text)) (valueFrom 16 0 (trapAddress text))
   unfolding givenOf
-  gives-none a b c d = rw (a, b, c, d)
+  gives-trap a b c d e = rw (a, b, c, d, e)
+
+  pub gives-none : byteForm text ≡ false → addressForm text ≡ false → limitForm (ascii "FROM") text ≡ false → limitForm (ascii "TO") text ≡ false → trapForm text ≡ false → givenOf text ≡ G.Wrong
+  unfolding givenOf
+  gives-none a b c d e = rw (a, b, c, d, e)
 
 -- ---- a field
 

@@ -1,9 +1,9 @@
--- What stands on the board's command line: numbers, registers with their values, and the cycles to show. Assumes nothing.
+-- What stands on the board's command line: numbers, registers with their values, traps, and the cycles to show. Assumes nothing.
 use Prim.Native.Nat.{ℕ, zero, suc, _+_, _-_, _*_, _/_, _%_}
 use mathlib.Core.List.{List, [], _∷_}
 use mathlib.Core.Bool.{Bool, true, false, cond, _&&_, _||_}
 use lib.Dec.{eqb, ltb, leb}
-use lib.ListN.{length, getD, drop, set}
+use lib.ListN.{length, getD, take, drop, set}
 use Rattle.digits.specs.Packed.{signed}
 use Rattle.text.specs.Ascii.{ascii}
 use Rattle.machine.specs.declared.State.{State}
@@ -97,13 +97,29 @@ addressForm text = names (ascii "WX") text && digitsFit 16 3 (drop 3 text)
 unfoldable pub limitForm : List ℕ → List ℕ → Bool
 limitForm name text = names name text && numberFits (drop (length name + 1) text)
 
+-- the number of a cycle: not 0
+abbrev pub cycleFits : List ℕ → Bool
+cycleFits text = numberFits text && ltb 0 (valueFrom 10 0 text)
+
+-- a trap's cycle and its address: what stands after "TRAP=", before the first ':' and after it
+abbrev pub trapCycle : List ℕ → List ℕ
+trapCycle text = take (placeIn 58 (drop 5 text)) (drop 5 text)
+
+abbrev pub trapAddress : List ℕ → List ℕ
+trapAddress text = drop (placeIn 58 (drop 5 text) + 1) (drop 5 text)
+
+-- a trap: "TRAP=", a cycle, ':', and 1 to 4 digits
+unfoldable pub trapForm : List ℕ → Bool
+trapForm text = names (ascii "TRAP") text && (cycleFits (trapCycle text) && digitsFit 16 4 (trapAddress text))
+
 -- what an argument gives
 unfoldable pub givenOf : List ℕ → Given
 givenOf text =
     cond (byteForm text) (G.Register (placeOf text) (valueFrom 16 0 (drop 2 text)))
     (cond (addressForm text) (G.Register 13 (valueFrom 16 0 (drop 3 text)))
     (cond (limitForm (ascii "FROM") text) (G.From (valueFrom 10 0 (drop 5 text)))
-    (cond (limitForm (ascii "TO") text) (G.To (valueFrom 10 0 (drop 3 text))) G.Wrong)))
+    (cond (limitForm (ascii "TO") text) (G.To (valueFrom 10 0 (drop 3 text)))
+    (cond (trapForm text) (G.Trap (valueFrom 10 0 (trapCycle text)) (valueFrom 16 0 (trapAddress text))) G.Wrong))))
 
 -- ---- a register's value in a state
 

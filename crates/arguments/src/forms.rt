@@ -2,7 +2,7 @@
 ghost use mathlib.Core.Path.{_≡_};
 ghost use Prim.Native.Nat.{_≤_};
 ghost use lib.ListN.{length, drop};
-ghost use Rattle.arguments.specs.Arguments.{capitalOf, names, placeIn, placeOf, byteForm, addressForm, limitForm, givenOf};
+ghost use Rattle.arguments.specs.Arguments.{capitalOf, names, placeIn, placeOf, byteForm, addressForm, limitForm, cycleFits, trapCycle, trapAddress, trapForm, givenOf};
 use crate::Given;
 use crate::numbers::between;
 use crate::numbers::digits_fit;
@@ -81,6 +81,37 @@ fn limit_form(name: &[u8], text: &[u8]) -> bool
     names(name, text) & number_fits(after(text, name.len() + 1))
 }
 
+fn cycle_fits(text: &[u8]) -> bool
+    ensures { λ r. ⌜ r ≡ cycleFits (now (text .entry)) ⌝ }
+{
+    if !number_fits(text) {
+        return false;
+    }
+    0 < value(10, text)
+}
+
+// What stands after "TRAP=", before the first ':' and after it.
+fn trap_cycle(text: &[u8]) -> &[u8]
+    ensures { λ r. ⌜ now r ≡ trapCycle (now (text .entry)) ⌝ }
+{
+    let rest = after(text, 5);
+    let end = place_in(b':', rest);
+    &rest[0..end]
+}
+
+fn trap_address(text: &[u8]) -> &[u8]
+    ensures { λ r. ⌜ now r ≡ trapAddress (now (text .entry)) ⌝ }
+{
+    let rest = after(text, 5);
+    after(rest, place_in(b':', rest) + 1)
+}
+
+fn trap_form(text: &[u8]) -> bool
+    ensures { λ r. ⌜ r ≡ trapForm (now (text .entry)) ⌝ }
+{
+    names(b"TRAP", text) & (cycle_fits(trap_cycle(text)) & digits_fit(16, 4, trap_address(text)))
+}
+
 // What an argument gives.
 pub fn given_of(text: &[u8]) -> Given
     ensures { λ r. ⌜ r ≡ givenOf (now (text .entry)) ⌝ }
@@ -96,6 +127,9 @@ pub fn given_of(text: &[u8]) -> Given
     }
     if limit_form(b"TO", text) {
         return Given::To(value(10, after(text, 3)));
+    }
+    if trap_form(text) {
+        return Given::Trap(value(10, trap_cycle(text)), value(16, trap_address(text)));
     }
     Given::Wrong
 }

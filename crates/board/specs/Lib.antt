@@ -1,1 +1,2 @@
 pub mod Adds
+pub mod Broken

@@ -83,7 +83,7 @@ fn answered(
 {
     let budget = 40 * (size as u32) + 40;
     let out = go::begin(view, start, room);
-    let went = go::go(view, store, main, local, start, budget, out, room);
+    let went = go::go(view, 0, store, main, local, start, budget, out, room);
     let out = go::end(went.finished, went.out, room);
     Sum {
         added: decimal::answered_at(went.finished, done),

@@ -1,5 +1,6 @@
 // Cycles one at a time, each shown: they are the run.
 ghost use mathlib.Core.Path.{_≡_};
+ghost use Prim.Native.Nat.{_+_, _^_, _<_};
 ghost use Rattle.machine.specs.Cycle.{outcome};
 ghost use Rattle.run.specs.Run.{cyclesOf, runOf};
 use crate::out;
@@ -108,6 +109,7 @@ fn ended(ending: Ending, state: State, count: u32, out: Out) -> Went
 
 fn cycles(
     view: View,
+    before: u32,
     store: &[u64],
     main: &mut [u8],
     local: &mut [u8],
@@ -116,6 +118,7 @@ fn cycles(
     first: Out,
     room: &mut [u8],
 ) -> Went
+    requires { ⌜ before + budget < 2 ^ 32 ⌝ }
     ensures { λ r. ⌜ outcome (r .finished) (now (main .exit)) (now (local .exit)) ≡ cyclesOf budget (now (store .entry)) (now (main .entry)) (now (local .entry)) state 0 ⌝ }
 {
     let mut now = state;
@@ -125,11 +128,11 @@ fn cycles(
         if done == budget {
             break ended(Ending::Spent, now, done, out);
         }
-        let sum = work(view, done + 1, store, now);
+        let sum = work(view, before + done + 1, store, now);
         match machine::cycle(store, main, local, now) {
             Cycled::Ran(next) => {
                 done = done + 1;
-                out = show(view, done, now.wx, next, sum, out, room);
+                out = show(view, before + done, now.wx, next, sum, out, room);
                 now = next;
             }
             Cycled::Stopped(last) => {
@@ -142,9 +145,10 @@ fn cycles(
     }
 }
 
-// Runs until stop, refusal or budget, and shows each cycle.
+// Runs until stop, refusal or budget, and shows each cycle; their numbers go on from those that ran before.
 pub fn go(
     view: View,
+    before: u32,
     store: &[u64],
     main: &mut [u8],
     local: &mut [u8],
@@ -153,11 +157,12 @@ pub fn go(
     out: Out,
     room: &mut [u8],
 ) -> Went
+    requires { ⌜ before + budget < 2 ^ 32 ⌝ }
     ensures { λ r. ⌜ outcome (r .finished) (now (main .exit)) (now (local .exit)) ≡ runOf budget (now (store .entry)) (now (main .entry)) (now (local .entry)) state ⌝ }
 {
     let number = run::refusal(store.len(), main.len(), local.len(), budget);
     if number != 0 {
         return ended(Ending::Refused(number, 0), state, 0, out);
     }
-    cycles(view, store, main, local, state, budget, out, room)
+    cycles(view, before, store, main, local, state, budget, out, room)
 }

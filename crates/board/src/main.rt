@@ -6,6 +6,7 @@ mod out;
 mod readout;
 mod runs;
 mod tell;
+mod traps;
 
 use add::Operation;
 use libc::STDOUT_FILENO;
@@ -18,8 +19,9 @@ fn usage() {
 board ap FIRST SECOND [FROM=n] [TO=n]
 board sp FIRST SECOND [FROM=n] [TO=n]
     adds or subtracts two numbers of 1 to 31 digits with signs, by the program of AP and SP: + or - before or after the digits, or : and a sign digit after them, as 190:F
-board run DECK MAIN CYCLES [I=HH ..] [FROM=n] [TO=n]
+board run DECK MAIN CYCLES [I=HH ..] [TRAP=n:HHH ..] [FROM=n] [TO=n]
     runs a deck over a storage image for at most so many cycles, from the registers given: I J U V L T D R S G H M N=HH, WX=HHH
+    TRAP=n:HHH traps to that address before cycle n
 board lamps add .. | board lamps ap .. | board lamps sp .. | board lamps run ..
     the same, each register as eight lamps
 board walk

@@ -1,6 +1,7 @@
-// What may follow a command's own arguments: registers, and which cycles are shown.
+// What may follow a command's own arguments: registers, traps, and which cycles are shown.
 ghost use Prim.Native.Nat.{_≤_};
 use crate::tell;
+use crate::traps;
 use arguments::Given;
 use machine::State;
 
@@ -15,7 +16,7 @@ pub enum Asked {
     Wrong,
 }
 
-// What a command takes beside the cycles to show: registers, a carry before them, or nothing.
+// What a command takes beside the cycles to show: registers and traps, a carry before them, or nothing.
 pub enum Takes {
     Registers,
     Carry,
@@ -61,7 +62,7 @@ fn wrong(at: usize, takes: Takes) -> Asked {
     match takes {
         Takes::Registers => tell::wrong(
             at,
-            b"is neither a register and its value, as I=HH or WX=HHH, nor FROM=n nor TO=n",
+            b"is neither a register and its value, as I=HH or WX=HHH, nor TRAP=CYCLE:HHH, nor FROM=n nor TO=n",
         ),
         Takes::Carry => tell::wrong(
             at,
@@ -80,14 +81,28 @@ fn register(at: usize, o: Options, takes: Takes, place: u8, value: u16, seen: &m
     once(at, place, seen, Options { state: state, ..o })
 }
 
+// A trap, which is looked up again when its cycle comes; there are no two of one cycle.
+fn trap(at: usize, first: usize, o: Options, takes: Takes) -> Asked {
+    let Takes::Registers = takes else {
+        return wrong(at, takes);
+    };
+    let after = traps::asked(at).after;
+    if traps::next(first, at, after).after == after {
+        tell::wrong(at, b"was given before");
+        return Asked::Wrong;
+    }
+    Asked::Options(o)
+}
+
 // One argument more.
-fn option(at: usize, o: Options, takes: Takes, seen: &mut [u8]) -> Asked {
-    let mut text = [0u8; 16];
+fn option(at: usize, first: usize, o: Options, takes: Takes, seen: &mut [u8]) -> Asked {
+    let mut text = [0u8; 24];
     let n = os::arg(at, &mut text);
     match arguments::given_of(&text[..n]) {
         Given::Register(place, value) => register(at, o, takes, place, value, seen),
         Given::From(cycle) => once(at, 14, seen, Options { from: cycle, ..o }),
         Given::To(cycle) => once(at, 15, seen, Options { to: cycle, ..o }),
+        Given::Trap(_, _) => trap(at, first, o, takes),
         Given::Wrong => wrong(at, takes),
     }
 }
@@ -99,7 +114,7 @@ pub fn read(first: usize, takes: Takes) -> Asked {
     let mut o = none();
     let mut at = first;
     while at < count {
-        match option(at, o, takes, &mut seen) {
+        match option(at, first, o, takes, &mut seen) {
             Asked::Options(next) => {
                 o = next;
             }

@@ -1,4 +1,4 @@
-// board run: a deck over a storage image, from registers that the command line gives.
+// board run: a deck over a storage image, from registers and with traps that the command line gives.
 ghost use Prim.Native.Nat.{_≤_};
 ghost use lib.ListN.{length};
 ghost use Rattle.input.specs.Inside.{Inside};
@@ -9,6 +9,7 @@ use crate::options::Asked;
 use crate::options::Takes;
 use crate::out;
 use crate::tell;
+use crate::traps;
 use arguments::Number;
 use deck::Reading;
 use input::Input;
@@ -50,13 +51,14 @@ fn over(lamps: bool, words: &[u64], main: &mut [u8], budget: u32, first: usize) 
     let mut local = [0u8; 256];
     let mut room = [0u8; 65536];
     let out = go::begin(view, o.state, &mut room);
-    let went = go::go(
+    let went = traps::broken_run(
         view,
         words,
         main,
         &mut local,
         o.state,
         budget,
+        first,
         out,
         &mut room,
     );

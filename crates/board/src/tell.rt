@@ -61,6 +61,16 @@ pub fn refused_field(at: usize, number: u8, digit: u8, place: u64) {
     io::write_all(STDERR_FILENO, b"\n");
 }
 
+// The run ended before the cycle of a trap.
+pub fn missed(cycle: u64) {
+    io::write_all(
+        STDERR_FILENO,
+        b"board: the run ended before the trap of cycle ",
+    );
+    io::print_decimal(STDERR_FILENO, cycle);
+    io::write_all(STDERR_FILENO, b"\n");
+}
+
 // There are as many arguments as a command asks, the command among them.
 pub fn enough(asked: usize) -> bool {
     let count = os::arg_count();

@@ -31,6 +31,8 @@ channels =
     byteOf "AB" "BYTE" (λ s. s .«arriving_byte») ∷
     latchOf "DC" "DIGIT-CY" (λ s. s .«digit_carry») ∷
     latchOf "INV" "INVALID" (λ s. s .invalid) ∷
+    pairOf "FWX" "FW" "FX" (λ s. s .fwx) ∷
+    latchOf "OW" "OWED" (λ s. s .owed) ∷
     []
 
 -- the work of a cycle, between the registers and the adder
@@ -46,13 +48,13 @@ workChannels =
     byteOf "AFTER" "AFTER" (λ w. w .after) ∷
     []
 
--- PANEL_STATE: 24
+-- PANEL_STATE: 27
 abbrev pub recordLength : ℕ
 recordLength = width (kindsOf channels)
 
 -- the state that the channels show
 abbrev pub stateBy : Values (kindsOf channels) → State
-stateBy (i, (j, (u, (v, (l, (t, (d, (r, (s, (g, (h, (m, (n, (wx, (ac, (bc, (z, (allow, (local, (arriving, (arrived, (carry, (invalid, _))))))))))))))))))))))) =
+stateBy (i, (j, (u, (v, (l, (t, (d, (r, (s, (g, (h, (m, (n, (wx, (ac, (bc, (z, (allow, (local, (arriving, (arrived, (carry, (invalid, (fwx, (owed, _))))))))))))))))))))))))) =
     record {
       i = i;
       j = j;
@@ -77,6 +79,8 @@ stateBy (i, (j, (u, (v, (l, (t, (d, (r, (s, (g, (h, (m, (n, (wx, (ac, (bc, (z, (
       «arriving_byte» = arrived;
       «digit_carry» = carry;
       invalid = invalid;
+      fwx = fwx;
+      owed = owed;
     }
 
 -- "A state is a record of PANEL_STATE bytes, one lamp channel to a byte": the record of a state, and the state of a record

@@ -1,6 +1,6 @@
 // The lamp channels: a state, and the work of a cycle, as the bytes that feed the lamps.
 ghost use mathlib.Core.Path.{_≡_};
-ghost use Prim.Native.Nat.{_+_, _*_};
+ghost use Prim.Native.Nat.{_+_, _*_, _/_, _%_};
 ghost use Rattle.channels.specs.Channels.{saved, loaded, worked};
 use adder::Work;
 use digits::byte_at;
@@ -12,6 +12,18 @@ fn pair(high: u8, low: u8) -> u16
     ensures { λ r. ⌜ r ≡ high * 256 + low ⌝ }
 {
     high as u16 * 256 + low as u16
+}
+
+fn high(number: u16) -> u8
+    ensures { λ r. ⌜ r ≡ number / 256 ⌝ }
+{
+    (number / 256) as u8
+}
+
+fn low(number: u16) -> u8
+    ensures { λ r. ⌜ r ≡ number % 256 ⌝ }
+{
+    (number % 256) as u8
 }
 
 // The state that a record shows; a byte that it lacks is 0.
@@ -42,11 +54,13 @@ pub fn loaded(bytes: &[u8]) -> State
         arriving_byte: byte_at(bytes, 21),
         digit_carry: byte_at(bytes, 22) != 0,
         invalid: byte_at(bytes, 23) != 0,
+        fwx: pair(byte_at(bytes, 24), byte_at(bytes, 25)),
+        owed: byte_at(bytes, 26) != 0,
     }
 }
 
 // The record of a state.
-pub fn saved(s: State) -> [u8; 24]
+pub fn saved(s: State) -> [u8; 27]
     ensures { λ r. ⌜ r ≡ saved s ⌝ }
 {
     [
@@ -63,8 +77,8 @@ pub fn saved(s: State) -> [u8; 24]
         s.h,
         s.m,
         s.n,
-        (s.wx / 256) as u8,
-        (s.wx % 256) as u8,
+        high(s.wx),
+        low(s.wx),
         one(s.ac),
         one(s.one_bc),
         one(s.z0),
@@ -74,6 +88,9 @@ pub fn saved(s: State) -> [u8; 24]
         s.arriving_byte,
         one(s.digit_carry),
         one(s.invalid),
+        high(s.fwx),
+        low(s.fwx),
+        one(s.owed),
     ]
 }
 

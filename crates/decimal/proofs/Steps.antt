@@ -14,14 +14,13 @@ use Rattle.word.specs.declared.Fields.{Fields}
 use Rattle.word.specs.declared.Packed.{Packed}
 use Rattle.word.specs.declared.Packed.the-variants as P
 use Rattle.word.proofs.Trips.{packed-apart}
-use Rattle.machine.specs.Sources.{entered, sumIn}
-use Rattle.machine.specs.Storage.{accessOf, outside, fetchedOf, mainAfter, localAfter}
+use Rattle.machine.specs.Sources.{entered}
+use Rattle.machine.specs.Storage.{outside, mainAfter, localAfter}
 use Rattle.machine.specs.Modelled.{unmodelledOf}
-use Rattle.machine.specs.Cycle.{outcome, stops, accessIn, after, ranOf, stepOf, cycleOf}
+use Rattle.machine.specs.Cycle.{outcome, stops, accessIn, ranOf, stepOf, cycleOf}
 use Rattle.machine.specs.declared.State.{State}
-use Rattle.machine.specs.declared.Access.{Access}
 use Rattle.machine.specs.declared.Cycled.the-variants as C
-use Rattle.machine.proofs.Cycles.{on-stop, on-ran, on-apart}
+use Rattle.machine.proofs.Cycles.{on-stop, on-ran, afterFields, on-apart}
 use Rattle.run.specs.Run.{ended, runOf}
 use Rattle.run.specs.declared.Ending.the-variants.{Stopped}
 use Rattle.run.proofs.Goes.{Machine, machine, Leads, Halts, Goes, here, next, Right, goes-right, ends}
@@ -57,6 +56,8 @@ made (i, j) (u, v) l t wx latch local arriving byte s =
       «arriving_byte» = byte;
       «digit_carry» = s .«digit_carry»;
       invalid = s .invalid;
+      fwx = s .fwx;
+      owed = s .owed;
     }
 
 -- at another address
@@ -126,10 +127,7 @@ has store program places t a h =
 
 -- the state that it leaves
 abbrev pub stateAfter : Fields → Machine → State
-stateAfter f m =
-    let e : State = entered f (m .state) in
-    let a : Access = accessOf f e in
-    after f (sumIn f e) a (fetchedOf (m .main) (m .local) a) e
+stateAfter f m = afterFields f (m .main) (m .local) (m .state)
 
 -- and main storage
 abbrev pub mainLeft : Fields → Machine → List ℕ

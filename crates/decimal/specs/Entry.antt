@@ -60,6 +60,9 @@ startWith a b n status =
       «arriving_byte» = 0;
       «digit_carry» = false;
       invalid = false;
+      -- "FWX starts at 0"
+      fwx = 0;
+      owed = false;
     }
 
 -- the carry in S3

@@ -116,6 +116,8 @@ pub fn start_with(a: u16, b: u16, length: u8, status: u8) -> State
         arriving_byte: 0,
         digit_carry: false,
         invalid: false,
+        fwx: 0,
+        owed: false,
     }
 }
 

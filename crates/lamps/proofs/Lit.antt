@@ -19,6 +19,7 @@ use Rattle.channels.specs.Channels.{channels, recordLength}
 use Rattle.lamps.specs.Columns.{digitCounts, byteCells}
 use Rattle.lamps.specs.Picture.{namesOf, inPlace}
 use Rattle.lamps.specs.Walk.{rowName, alone, hexBytes, walkLine, lampsOf, walkRow, pairs}
+use Rattle.lamps.proofs.Rows.{namesIn}
 
 -- ---- each lamp's byte has one bit on
 
@@ -32,15 +33,12 @@ one-lit digits = lit-of (eqb digits 1)
 
 -- ---- names
 
-abbrev pub names : List ℕ
-names = joined (map inPlace (namesOf channels))
-
-pub name-at : (row : ℕ) → row < recordLength → take 9 (drop (row * 9) names) ≡ rowName row
+pub name-at : (row : ℕ) → row < recordLength → take 9 (drop (row * 9) (namesIn channels)) ≡ rowName row
 unfolding rowName
-name-at row h = sym (pieces-at 9 recordLength names row h) ∙ map-at inPlace (namesOf channels) row [] [] h
+name-at row h = sym (pieces-at 9 recordLength (namesIn channels) row h) ∙ map-at inPlace (namesOf channels) row [] [] h
 
 pub length-name : (row : ℕ) → row < recordLength → length (rowName row) ≡ 9
-length-name row h = ap length (sym (name-at row h)) ∙ rw (length-take 9 (drop (row * 9) names), length-drop (row * 9) names) (omega arith)
+length-name row h = ap length (sym (name-at row h)) ∙ rw (length-take 9 (drop (row * 9) (namesIn channels)), length-drop (row * 9) (namesIn channels)) (omega arith)
 
 -- ---- a record in hexadecimal
 

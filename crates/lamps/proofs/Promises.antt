@@ -10,6 +10,7 @@ use Rattle.lamps.proofs.pictures.picture.Reads as picture
 use Rattle.lamps.proofs.pictures.start_picture.Reads as start-picture
 use Rattle.lamps.proofs.walks.walk.Reads as walk
 use Rattle.lamps.proofs.endings.ending.Reads as ending
+use Rattle.lamps.proofs.endings.trapped.Reads as trapped
 
 pub header-sole : (κs : _) (args : _) (r s : Written) (x y : _) → header.Post κs args r x → header.Post κs args s y → (r ≡ s) × (now (x .0) ≡ now (y .0))
 header-sole κs args r s x y p q = (sole (p .0) (q .0), sole (p .1) (q .1))
@@ -31,3 +32,6 @@ walk-sole κs args r s x y p q = (sole (p .0) (q .0), sole (p .1) (q .1))
 
 pub ending-sole : (κs : _) (args : _) (r s : Written) (x y : _) → ending.Post κs args r x → ending.Post κs args s y → (r ≡ s) × (now (x .1 .1 .0) ≡ now (y .1 .1 .0))
 ending-sole κs args r s x y p q = (sole (p .0) (q .0), sole (p .1) (q .1))
+
+pub trapped-sole : (κs : _) (args : _) (r s : Written) (x y : _) → trapped.Post κs args r x → trapped.Post κs args s y → (r ≡ s) × (now (x .1 .0) ≡ now (y .1 .0))
+trapped-sole κs args r s x y p q = (sole (p .0) (q .0), sole (p .1) (q .1))

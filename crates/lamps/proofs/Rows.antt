@@ -1,20 +1,21 @@
 -- Rows of lamps, by the bytes of the record. Assumes nothing.
-use Prim.Native.Nat.{ℕ, _+_, _*_, _<_, _≤_}
-use mathlib.Core.Path.{_≡_, refl, ap, _∙_}
+use Prim.Native.Nat.{ℕ, suc, _+_, _-_, _*_, _<_, _≤_, min}
+use mathlib.Core.Path.{_≡_, refl, sym, ap, _∙_}
 use mathlib.Core.Bool.{Bool, true, false, cond, not}
 use mathlib.Core.List.{List, [], _∷_, _++_, map}
 use native.Mathlib.Numerals.{add-one}
 use native.Mathlib.Omega.{arith}
-use lib.Dec.{eqb}
-use lib.ListN.{length, getD, take, drop, drop-of-length-le, length-append}
-use lib.Seq.{drop-cons}
+use borrow.Author.Tests.{leb-true, leb-false}
+use lib.Dec.{eqb, leb}
+use lib.ListN.{length, getD, take, drop, drop-of-length-le, length-append, length-drop}
+use lib.Seq.{drop-cons, drop-drop, take-all}
 use Rattle.digits.specs.Lists.{joined}
 use Rattle.adder.specs.declared.Work.{Work}
 use Rattle.machine.specs.declared.State.{State}
 use Rattle.channels.specs.Lamps.{Kind, byte, pair, latch, Value, lampBytes, Channel, bytesOf}
 use Rattle.channels.specs.Channels.{channels, workChannels, saved, worked}
 use Rattle.lamps.specs.Columns.{countsOf, digitCounts}
-use Rattle.lamps.specs.Picture.{lamp, eight, lampRows, rowsOf, namesOf, inPlace, blocks, stateBlocks, workBlocks, rowAt, byteRows, blockBytes}
+use Rattle.lamps.specs.Picture.{lamp, eight, lampRows, rowsOf, namesOf, inPlace, blocks, eights, blocksOf, rowAt, byteRows, blockBytes, byteBlocks, blocksBytes}
 
 -- the rows of some channels are those of their bytes
 one-row : (k : Kind) (v : Value k) (ds xs : List ℕ) → lampRows k v ++ byteRows ds xs ≡ byteRows (countsOf k ++ ds) (lampBytes k v ++ xs)
@@ -58,25 +59,43 @@ pub length-block : (names ds xs : List ℕ) → length ds ≡ length xs → leng
 length-block names ds xs e =
     length-append names _ ∙ rw (length-append (rowsIn ds xs) (10 ∷ []), length-rows ds xs e) (omega arith)
 
--- the names of up to eight rows in their places, and the rows' digits, from row k on
-abbrev pub namesAt : {X : Type 0} → List (Channel X) → ℕ → List ℕ
-namesAt cs k = joined (map inPlace (take 8 (drop k (namesOf cs))))
+-- ---- eight side by side
 
-abbrev pub countsAt : {X : Type 0} → List (Channel X) → ℕ → List ℕ
-countsAt cs k = take 8 (drop k (digitCounts cs))
+-- some of a list, where less may be left of it
+pub lent : (k row end : ℕ) (l : List ℕ) → end - row ≡ min k (length l - row) → take (end - row) (drop row l) ≡ take k (drop row l)
+lent k row end l e = rw e (by (leb k (length l - row)) refl)
+  where
+    by : (b : Bool) → leb k (length l - row) ≡ b → take (min k (length l - row)) (drop row l) ≡ take k (drop row l)
+    by true t = let z : min k (length l - row) ≡ k = omega (arith, leb-true k (length l - row) t) in rw z
+    by false t =
+        let n = length-drop row l in
+        let m = leb-false k (length l - row) t in
+        take-all (min k (length l - row)) (drop row l) (omega arith) ∙ sym (take-all k (drop row l) (omega arith))
 
--- a block of the state's rows, by the bytes of its record
-abbrev pub statePart : ℕ → List ℕ → List ℕ
-statePart k bytes = blockBytes (namesAt channels k) (countsAt channels k) (take 8 (drop k bytes))
+-- the block from a row on, and what is left with it
+abbrev pub blockAt : List ℕ → List ℕ → List ℕ → ℕ → List ℕ
+blockAt names ds xs row = blockBytes (take 72 (drop (9 * row) names)) (take 8 (drop row ds)) (take 8 (drop row xs))
 
-pub state-blocks : (s : State) → stateBlocks s ≡ statePart 0 (saved s) ++ (statePart 8 (saved s) ++ (statePart 16 (saved s) ++ []))
+abbrev pub blocksFrom : List ℕ → List ℕ → List ℕ → ℕ → List ℕ
+blocksFrom names ds xs row = byteBlocks (eights (length xs - row)) (drop (9 * row) names) (drop row ds) (drop row xs)
+
+pub blocks-step : (names ds xs : List ℕ) (row : ℕ) → row < length xs → blocksFrom names ds xs row ≡ blockAt names ds xs row ++ blocksFrom names ds xs (row + 8)
+blocks-step names ds xs row h =
+    let n : eights (length xs - row) ≡ suc (eights (length xs - (row + 8))) = omega arith in
+    let k : 9 * (row + 8) ≡ 9 * row + 72 = omega arith in
+    rw (n, k, drop-drop 72 (9 * row) names, drop-drop 8 row ds, drop-drop 8 row xs)
+
+pub blocks-end : (names ds xs : List ℕ) (row : ℕ) → length xs ≤ row → blocksFrom names ds xs row ≡ []
+blocks-end names ds xs row h = let n : eights (length xs - row) ≡ 0 = omega arith in rw n
+
+-- the blocks of some channels are those of their bytes, under their names
+abbrev pub namesIn : {X : Type 0} → List (Channel X) → List ℕ
+namesIn cs = joined (map inPlace (namesOf cs))
+
+pub state-blocks : (s : State) → blocksBytes (namesIn channels) (digitCounts channels) (saved s) ≡ blocksOf channels s
 unfolding saved
-state-blocks s = ap (blocks 3 (namesOf channels)) (rows-bytes channels s)
+state-blocks s = sym (ap (blocks (eights (length (namesOf channels))) (namesOf channels)) (rows-bytes channels s))
 
--- and of the work's
-abbrev pub workPart : List ℕ → List ℕ
-workPart bytes = blockBytes (namesAt workChannels 0) (countsAt workChannels 0) (take 8 bytes)
-
-pub work-blocks : (w : Work) → workBlocks w ≡ workPart (worked w) ++ []
+pub work-blocks : (w : Work) → blocksBytes (namesIn workChannels) (digitCounts workChannels) (worked w) ≡ blocksOf workChannels w
 unfolding worked
-work-blocks w = ap (blocks 1 (namesOf workChannels)) (rows-bytes workChannels w)
+work-blocks w = sym (ap (blocks (eights (length (namesOf workChannels))) (namesOf workChannels)) (rows-bytes workChannels w))

@@ -1,4 +1,4 @@
--- How a run ended. Assumes nothing.
+-- How a run ended, and what came of a trap. Assumes nothing.
 use Prim.Native.Nat.{ℕ}
 use Prim.Native.String.{String}
 use mathlib.Core.List.{List, [], _∷_, _++_}
@@ -6,6 +6,8 @@ use lib.ListN.{getD}
 use Rattle.text.specs.Ascii.{ascii}
 use Rattle.text.specs.Text.{hexadecimal, decimal}
 use Rattle.text.specs.Words.{wordsOf}
+use Rattle.trap.specs.declared.Trapped.{Trapped}
+use Rattle.trap.specs.declared.Trapped.the-variants as T
 use Rattle.run.specs.declared.Ending.{Ending}
 use Rattle.run.specs.declared.Ending.the-variants as E
 
@@ -32,3 +34,11 @@ unfoldable pub endingOf : Ending → ℕ → List ℕ
 endingOf E.Stopped at = standing (ascii "STOPPED AT ") at
 endingOf E.Spent at = standing (ascii "SPENT AT ") at
 endingOf (E.Refused number field) at = refusedOf number field at
+
+-- a trap that was taken: the address to which, and the one of the word broken into
+abbrev pub takenOf : ℕ → ℕ → List ℕ
+takenOf to from = ascii "TRAP TO " ++ (hexadecimal 3 to ++ (ascii ", FROM " ++ (hexadecimal 3 from ++ (10 ∷ []))))
+
+unfoldable pub trappedOf : Trapped → List ℕ
+trappedOf (T.Taken t) = takenOf (t .wx) (t .fwx)
+trappedOf (T.Refused t number) = ascii "TRAP " ++ refusedOf number 0 (t .wx)

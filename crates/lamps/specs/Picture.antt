@@ -1,9 +1,9 @@
 -- A cycle as lamps, eight rows side by side under their names. Assumes nothing.
-use Prim.Native.Nat.{ℕ, zero, suc, _/_, _%_}
+use Prim.Native.Nat.{ℕ, zero, suc, _+_, _/_, _%_}
 use mathlib.Core.List.{List, [], _∷_, _++_, map}
 use mathlib.Core.Bool.{Bool, cond, not}
 use lib.Dec.{eqb}
-use lib.ListN.{take, drop}
+use lib.ListN.{length, take, drop}
 use Rattle.digits.specs.Bits.{bit}
 use Rattle.digits.specs.Lists.{joined}
 use Rattle.adder.specs.declared.Work.{Work}
@@ -49,22 +49,23 @@ abbrev pub blocks : ℕ → List (List ℕ) → List (List ℕ) → List ℕ
 blocks zero names rows = []
 blocks (suc n) names rows = block (take 8 names) (take 8 rows) ++ blocks n (drop 8 names) (drop 8 rows)
 
-abbrev pub stateBlocks : State → List ℕ
-stateBlocks s = blocks 3 (namesOf channels) (rowsOf channels s)
+-- how many blocks some rows take, and those of some channels
+abbrev pub eights : ℕ → ℕ
+eights n = (n + 7) / 8
 
-abbrev pub workBlocks : Work → List ℕ
-workBlocks w = blocks 1 (namesOf workChannels) (rowsOf workChannels w)
+abbrev pub blocksOf : {X : Type 0} → List (Channel X) → X → List ℕ
+blocksOf cs x = blocks (eights (length (namesOf cs))) (namesOf cs) (rowsOf cs x)
 
 abbrev pub titleOf : ℕ → ℕ → List ℕ
 titleOf cycle at = ascii "CYCLE" ++ (inColumns 7 cycle ++ (ascii " AT " ++ (hexadecimal 3 at ++ (10 ∷ []))))
 
 -- a cycle: its number and its word's address, the state after it, its work, and an empty line
 unfoldable pub pictureOf : ℕ → ℕ → State → Work → List ℕ
-pictureOf cycle at s w = titleOf cycle at ++ (stateBlocks s ++ (workBlocks w ++ (10 ∷ [])))
+pictureOf cycle at s w = titleOf cycle at ++ (blocksOf channels s ++ (blocksOf workChannels w ++ (10 ∷ [])))
 
 -- the state before the first cycle
 unfoldable pub startPictureOf : State → List ℕ
-startPictureOf s = ascii "CYCLE      0\n" ++ (stateBlocks s ++ (10 ∷ []))
+startPictureOf s = ascii "CYCLE      0\n" ++ (blocksOf channels s ++ (10 ∷ []))
 
 -- ---- the same by the bytes of the record, as the code goes along it
 
@@ -80,3 +81,12 @@ byteRows [] xs = []
 -- a block of some bytes, under names that stand in their places
 abbrev pub blockBytes : List ℕ → List ℕ → List ℕ → List ℕ
 blockBytes names digits bytes = names ++ (10 ∷ (joined (map inPlace (byteRows digits bytes)) ++ (10 ∷ [])))
+
+-- eight side by side, each under its name in nine columns
+abbrev pub byteBlocks : ℕ → List ℕ → List ℕ → List ℕ → List ℕ
+byteBlocks zero names digits bytes = []
+byteBlocks (suc n) names digits bytes =
+    blockBytes (take 72 names) (take 8 digits) (take 8 bytes) ++ byteBlocks n (drop 72 names) (drop 8 digits) (drop 8 bytes)
+
+abbrev pub blocksBytes : List ℕ → List ℕ → List ℕ → List ℕ
+blocksBytes names digits bytes = byteBlocks (eights (length bytes)) names digits bytes

@@ -51,8 +51,12 @@ pub(crate) fn put_cells(spaces: &[u8], digits: &[u8], bytes: &[u8], out: &mut [u
     }
 }
 
+// The name of each row of a state's lamps, at the right end of nine columns.
+pub(crate) const NAMES: [u8; 243] =
+    *b"        I        J        U        V        L        T        D        R        S        G        H        M        N        W        X       AC      1BC       Z0    ALLOW    LOCAL ARRIVING     BYTE DIGIT-CY  INVALID       FW       FX     OWED";
+
 // The spaces before each byte of a state's record, and its digits.
-const SPACES: [u8; 24] = [
+const SPACES: [u8; 27] = [
     1,
     1,
     1,
@@ -77,9 +81,12 @@ const SPACES: [u8; 24] = [
     1,
     2,
     3,
+    1,
+    0,
+    2,
 ];
 
-pub(crate) const DIGITS: [u8; 24] = [
+pub(crate) const DIGITS: [u8; 27] = [
     2,
     2,
     2,
@@ -103,6 +110,9 @@ pub(crate) const DIGITS: [u8; 24] = [
     1,
     2,
     1,
+    1,
+    2,
+    2,
     1,
 ];
 
@@ -112,18 +122,18 @@ const WORK_SPACES: [u8; 8] = [1, 1, 1, 1, 1, 2, 5, 4];
 pub(crate) const WORK_DIGITS: [u8; 8] = [2, 2, 2, 2, 2, 1, 2, 2];
 
 // The columns of a state.
-pub(crate) fn state_cells(s: State) -> [u8; 73]
+pub(crate) fn state_cells(s: State) -> [u8; 81]
     ensures { λ r. ⌜ r ≡ cells channels s ⌝ }
 {
     let record = channels::saved(s);
     let spaces = SPACES;
     let digits = DIGITS;
-    let mut out = [b' '; 73];
+    let mut out = [b' '; 81];
     put_cells(
-        &spaces[0..24],
-        &digits[0..24],
-        &record[0..24],
-        &mut out[0..73],
+        &spaces[0..27],
+        &digits[0..27],
+        &record[0..27],
+        &mut out[0..81],
     );
     out
 }

@@ -1,14 +1,16 @@
-// How a run ended.
+// How a run ended, and what came of a trap.
 ghost use mathlib.Core.Path.{_≡_};
+ghost use mathlib.Core.List.{_++_};
 ghost use Prim.Native.Nat.{_+_, _≤_};
 ghost use lib.ListN.{length};
 ghost use Rattle.digits.specs.Lent.{over, overAt};
 ghost use Rattle.text.specs.Text.{decimal, putOf, roomAfter};
 ghost use Rattle.text.specs.Words.{wordsOf};
-ghost use Rattle.lamps.specs.Ending.{fieldOf, placeOf, standing, refusedOf, endingOf};
+ghost use Rattle.lamps.specs.Ending.{fieldOf, placeOf, standing, refusedOf, endingOf, takenOf, trappedOf};
 use crate::columns::after;
 use run::Ending;
 use text::Written;
+use trap::Trapped;
 
 // A number in decimal.
 fn put_number(number: u8, room: &mut [u8], at: usize) -> usize
@@ -75,12 +77,13 @@ fn put_refused(number: u8, field: u8, address: u16, room: &mut [u8]) -> usize
     after(b"\n", room, next)
 }
 
-fn refused(number: u8, field: u8, address: u16, room: &mut [u8]) -> Written
-    ensures { λ r. ⌜ (r ≡ putOf (refusedOf number field address) (length (now (room .entry)))) × (now (room .exit) ≡ roomAfter (refusedOf number field address) (now (room .entry))) ⌝ }
+// A refusal, after the words that say of what.
+fn refused(words: &[u8], number: u8, field: u8, address: u16, room: &mut [u8]) -> Written
+    ensures { λ r. ⌜ (r ≡ putOf (now (words .entry) ++ refusedOf number field address) (length (now (room .entry)))) × (now (room .exit) ≡ roomAfter (now (words .entry) ++ refusedOf number field address) (now (room .entry))) ⌝ }
 {
     let mut line = [0u8; 96];
     let end = put_refused(number, field, address, &mut line);
-    text::put(&line[0..end], room)
+    text::put_both(words, &line[0..end], room)
 }
 
 fn standing(words: &[u8], address: u16, room: &mut [u8]) -> Written
@@ -97,7 +100,27 @@ pub fn ending(how: Ending, address: u16, room: &mut [u8]) -> Written
 {
     match how {
         Ending::Stopped => standing(b"STOPPED AT ", address, room),
-        Ending::Refused(number, field) => refused(number, field, address, room),
+        Ending::Refused(number, field) => refused(b"", number, field, address, room),
         Ending::Spent => standing(b"SPENT AT ", address, room),
+    }
+}
+
+// To where a trap went, and from where.
+fn taken(to: u16, from: u16) -> [u8; 22]
+    ensures { λ r. ⌜ r ≡ takenOf to from ⌝ }
+{
+    let mut text = *b"TRAP TO    , FROM    \n";
+    text::put_hexadecimal(to as u64, &mut text[8..11]);
+    text::put_hexadecimal(from as u64, &mut text[18..21]);
+    text
+}
+
+// What came of a trap.
+pub fn trapped(answer: Trapped, room: &mut [u8]) -> Written
+    ensures { λ r. ⌜ (r ≡ putOf (trappedOf answer) (length (now (room .entry)))) × (now (room .exit) ≡ roomAfter (trappedOf answer) (now (room .entry))) ⌝ }
+{
+    match answer {
+        Trapped::Taken(s) => text::put(&taken(s.wx, s.fwx), room),
+        Trapped::Refused(s, number) => refused(b"TRAP ", number, 0, s.wx, room),
     }
 }

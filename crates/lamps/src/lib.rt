@@ -1,4 +1,4 @@
-// What the lamps show, as text for a person at a bench: a line or a picture for each cycle, the walk, and how it ended.
+// What the lamps show, as text for a person at a bench: a line or a picture for each cycle, the walk, what came of a trap, and how it ended.
 mod columns;
 mod endings;
 mod lines;
@@ -6,6 +6,7 @@ mod pictures;
 mod walks;
 
 pub use endings::ending;
+pub use endings::trapped;
 pub use lines::header;
 pub use lines::line;
 pub use lines::start;

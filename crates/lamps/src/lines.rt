@@ -15,7 +15,7 @@ pub fn header(room: &mut [u8]) -> Written
     ensures { λ r. ⌜ (r ≡ putOf headerOf (length (now (room .entry)))) × (now (room .exit) ≡ roomAfter headerOf (now (room .entry))) ⌝ }
 {
     text::put(
-        b"  CYCLE  AT  I  J  U  V  L  T  D  R  S  G  H  M  N   WX AC 1BC Z0 AW LS AR AB DC INV  A GA  B GB EB CI BEFORE AFTER\n",
+        b"  CYCLE  AT  I  J  U  V  L  T  D  R  S  G  H  M  N   WX AC 1BC Z0 AW LS AR AB DC INV  FWX OW  A GA  B GB EB CI BEFORE AFTER\n",
         room,
     )
 }
@@ -34,7 +34,7 @@ fn front(cycle: u32, at: u16) -> [u8; 11]
 pub fn line(cycle: u32, at: u16, s: State, w: Work, room: &mut [u8]) -> Written
     ensures { λ r. ⌜ (r ≡ putOf (lineOf cycle at s w) (length (now (room .entry)))) × (now (room .exit) ≡ roomAfter (lineOf cycle at s w) (now (room .entry))) ⌝ }
 {
-    if room.len() < 116 {
+    if room.len() < 124 {
         return Written::Refused(19);
     }
     let next = after(&front(cycle, at), room, 0);
@@ -47,7 +47,7 @@ pub fn line(cycle: u32, at: u16, s: State, w: Work, room: &mut [u8]) -> Written
 pub fn start(s: State, room: &mut [u8]) -> Written
     ensures { λ r. ⌜ (r ≡ putOf (startOf s) (length (now (room .entry)))) × (now (room .exit) ≡ roomAfter (startOf s) (now (room .entry))) ⌝ }
 {
-    if room.len() < 85 {
+    if room.len() < 93 {
         return Written::Refused(19);
     }
     let next = after(b"      0 ---", room, 0);

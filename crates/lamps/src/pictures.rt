@@ -1,14 +1,16 @@
 // A cycle as lamps, eight rows side by side under their names.
 ghost use mathlib.Core.Path.{_≡_};
 ghost use mathlib.Core.List.{map};
-ghost use Prim.Native.Nat.{_+_, _*_, _≤_};
+ghost use Prim.Native.Nat.{_+_, _*_, _≤_, min};
 ghost use lib.ListN.{length};
 ghost use Rattle.digits.specs.Bits.{bit};
 ghost use Rattle.digits.specs.Lent.{overAt};
 ghost use Rattle.digits.specs.Lists.{joined};
 ghost use Rattle.text.specs.Text.{putOf, roomAfter};
-ghost use Rattle.lamps.specs.Picture.{lamp, inPlace, rowAt, byteRows, blockBytes, stateBlocks, workBlocks, titleOf, pictureOf, startPictureOf};
+ghost use Rattle.channels.specs.Channels.{channels, workChannels};
+ghost use Rattle.lamps.specs.Picture.{lamp, inPlace, rowAt, byteRows, blockBytes, blocksBytes, blocksOf, titleOf, pictureOf, startPictureOf};
 use crate::columns::DIGITS;
+use crate::columns::NAMES;
 use crate::columns::WORK_DIGITS;
 use crate::columns::after;
 use adder::Work;
@@ -66,7 +68,6 @@ fn put_rows(digits: &[u8], bytes: &[u8], out: &mut [u8])
 fn put_block(names: &[u8], digits: &[u8], bytes: &[u8], room: &mut [u8], at: usize) -> usize
     requires { ⌜ (length (now digits) ≡ length (now bytes)) × (length (now bytes) ≤ 8) ⌝ }
     requires { ⌜ at + (length (now names) + (9 * length (now bytes) + 2)) ≤ length (now room) ⌝ }
-    ensures { λ r. ⌜ r ≡ at + (length (now (names .entry)) + (9 * length (now (bytes .entry)) + 2)) ⌝ }
     ensures { λ r. ⌜ (r ≡ at + length (blockBytes (now (names .entry)) (now (digits .entry)) (now (bytes .entry)))) × (now (room .exit) ≡ overAt at (blockBytes (now (names .entry)) (now (digits .entry)) (now (bytes .entry))) (now (room .entry))) ⌝ }
 {
     let named = after(names, room, at);
@@ -76,47 +77,51 @@ fn put_block(names: &[u8], digits: &[u8], bytes: &[u8], room: &mut [u8], at: usi
     after(b"\n", room, end)
 }
 
-// Puts the rows of a state under their names, eight side by side.
-fn put_state(s: State, room: &mut [u8], at: usize) -> usize
-    requires { ⌜ at + 438 ≤ length (now room) ⌝ }
-    ensures { λ r. ⌜ (r ≡ at + 438) × (now (room .exit) ≡ overAt at (stateBlocks s) (now (room .entry))) ⌝ }
+fn least(a: usize, b: usize) -> usize
+    ensures { λ r. ⌜ r ≡ min a b ⌝ }
 {
-    let digits = DIGITS;
-    let bytes = channels::saved(s);
-    let next = put_block(
-        b"        I        J        U        V        L        T        D        R",
-        &digits[0..8],
-        &bytes[0..8],
-        room,
-        at,
-    );
-    let next = put_block(
-        b"        S        G        H        M        N        W        X       AC",
-        &digits[8..16],
-        &bytes[8..16],
-        room,
-        next,
-    );
-    put_block(
-        b"      1BC       Z0    ALLOW    LOCAL ARRIVING     BYTE DIGIT-CY  INVALID",
-        &digits[16..24],
-        &bytes[16..24],
-        room,
-        next,
-    )
+    if a < b { a } else { b }
 }
 
-// Puts the rows of a cycle's work.
-fn put_work(w: Work, room: &mut [u8], at: usize) -> usize
-    requires { ⌜ at + 146 ≤ length (now room) ⌝ }
-    ensures { λ r. ⌜ (r ≡ at + 146) × (now (room .exit) ≡ overAt at (workBlocks w) (now (room .entry))) ⌝ }
+// Puts the rows of a record under their names, eight side by side.
+fn put_blocks(names: &[u8], digits: &[u8], bytes: &[u8], room: &mut [u8], at: usize) -> usize
+    requires { ⌜ (length (now names) ≡ 9 * length (now bytes)) × (length (now digits) ≡ length (now bytes)) ⌝ }
+    requires { ⌜ at + length (blocksBytes (now names) (now digits) (now bytes)) ≤ length (now room) ⌝ }
+    ensures { λ r. ⌜ (r ≡ at + length (blocksBytes (now (names .entry)) (now (digits .entry)) (now (bytes .entry)))) × (now (room .exit) ≡ overAt at (blocksBytes (now (names .entry)) (now (digits .entry)) (now (bytes .entry))) (now (room .entry))) ⌝ }
 {
-    let digits = WORK_DIGITS;
-    let bytes = channels::worked(w);
-    put_block(
+    let mut next = at;
+    let mut row: usize = 0;
+    while row < bytes.len() {
+        let end = least(row + 8, bytes.len());
+        let from = 9 * row;
+        let to = 9 * end;
+        next = put_block(
+            &names[from..to],
+            &digits[row..end],
+            &bytes[row..end],
+            room,
+            next,
+        );
+        row += 8;
+    }
+    next
+}
+
+fn put_state(s: State, room: &mut [u8], at: usize) -> usize
+    requires { ⌜ at + length (blocksOf channels s) ≤ length (now room) ⌝ }
+    ensures { λ r. ⌜ (r ≡ at + length (blocksOf channels s)) × (now (room .exit) ≡ overAt at (blocksOf channels s) (now (room .entry))) ⌝ }
+{
+    put_blocks(&NAMES, &DIGITS, &channels::saved(s), room, at)
+}
+
+fn put_work(w: Work, room: &mut [u8], at: usize) -> usize
+    requires { ⌜ at + length (blocksOf workChannels w) ≤ length (now room) ⌝ }
+    ensures { λ r. ⌜ (r ≡ at + length (blocksOf workChannels w)) × (now (room .exit) ≡ overAt at (blocksOf workChannels w) (now (room .entry))) ⌝ }
+{
+    put_blocks(
         b"        A  GATED-A        B  GATED-B ENTERS-B CARRY-IN   BEFORE    AFTER",
-        &digits[0..8],
-        &bytes[0..8],
+        &WORK_DIGITS,
+        &channels::worked(w),
         room,
         at,
     )
@@ -135,7 +140,7 @@ fn title(cycle: u32, at: u16) -> [u8; 20]
 pub fn picture(cycle: u32, at: u16, s: State, w: Work, room: &mut [u8]) -> Written
     ensures { λ r. ⌜ (r ≡ putOf (pictureOf cycle at s w) (length (now (room .entry)))) × (now (room .exit) ≡ roomAfter (pictureOf cycle at s w) (now (room .entry))) ⌝ }
 {
-    if room.len() < 605 {
+    if room.len() < 661 {
         return Written::Refused(19);
     }
     let next = after(&title(cycle, at), room, 0);
@@ -148,7 +153,7 @@ pub fn picture(cycle: u32, at: u16, s: State, w: Work, room: &mut [u8]) -> Writt
 pub fn start_picture(s: State, room: &mut [u8]) -> Written
     ensures { λ r. ⌜ (r ≡ putOf (startPictureOf s) (length (now (room .entry)))) × (now (room .exit) ≡ roomAfter (startPictureOf s) (now (room .entry))) ⌝ }
 {
-    if room.len() < 452 {
+    if room.len() < 508 {
         return Written::Refused(19);
     }
     let next = after(b"CYCLE      0\n", room, 0);

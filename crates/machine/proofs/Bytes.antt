@@ -1,5 +1,5 @@
--- Bytes stay bytes: every register is below 256, and WX below 65,536, after every cycle. Assumes nothing.
-use Prim.Native.Nat.{ℕ, zero, suc, _<_}
+-- Bytes stay bytes: every register is below 256, and WX and FWX below 65,536, after every cycle. Assumes nothing.
+use Prim.Native.Nat.{ℕ, zero, suc, _+_, _*_, _<_}
 use mathlib.Core.Path.{_≡_, subst}
 use mathlib.Core.List.{List, [], _∷_}
 use mathlib.Core.Bool.{Bool, true, false, cond, not, _&&_}
@@ -13,12 +13,12 @@ use Rattle.digits.proofs.Table.{any}
 use Rattle.digits.proofs.Truth.{zero-one}
 use Rattle.digits.specs.Refusal.{first}
 use Rattle.word.specs.Layout.{fieldsOf}
-use Rattle.word.specs.Parity.{caToW, kToW}
+use Rattle.word.specs.Parity.{caToW, kToW, isReturn}
 use Rattle.word.specs.declared.Fields.{Fields}
 use Rattle.adder.specs.declared.Sum.{Sum}
 use Rattle.adder.proofs.Laws.{sum-byte}
 use Rattle.machine.specs.Sources.{entered, aSource, aSources, bSource, bSources, controlsOf, sumIn}
-use Rattle.machine.specs.Branch.{highBranches, lowBranches, wOf, nextOf}
+use Rattle.machine.specs.Branch.{highBranches, lowBranches, wOf, xOf, nextOf}
 use Rattle.machine.specs.Storage.{readsLocal, accesses, accessOf, idle, fetchedOf, mainAddress}
 use Rattle.machine.specs.Status.{into, saves, statuses, statusOf}
 use Rattle.machine.specs.Cycle.{stops, cycleChecks, wordAt, after, ranOf, decided, cycleOf}
@@ -48,11 +48,12 @@ pub record Bytes (s : State) : Type 0 where
   pub m : Byte (s .m)
   pub n : Byte (s .n)
   pub wx : s .wx < 65536
+  pub fwx : s .fwx < 65536
   pub arriving : Byte (s .«arriving_byte»)
 
-either : (b : Bool) (x y : ℕ) → Byte x → Byte y → Byte (cond b x y)
-either true x y hx hy = hx
-either false x y hx hy = hy
+below : {most : ℕ} (b : Bool) (x y : ℕ) → x < most → y < most → cond b x y < most
+below true x y hx hy = hx
+below false x y hx hy = hy
 
 -- a
 pub entered-bytes : (f : Fields) (s : State) → Bytes s → Bytes (entered f s)
@@ -66,20 +67,21 @@ entered-bytes f s b =
       l = b .l;
       t = b .t;
       d = b .d;
-      r = either (s .arriving && not (eqb (f .cm) 2)) (s .«arriving_byte») (s .r) (b .arriving) (b .r);
+      r = below (s .arriving && not (eqb (f .cm) 2)) (s .«arriving_byte») (s .r) (b .arriving) (b .r);
       s′ = b .s′;
       g = b .g;
       h = b .h;
       m = b .m;
       n = b .n;
       wx = b .wx;
+      fwx = b .fwx;
       arriving = omega arith;
     }
 
 -- c
 a-byte : (f : Fields) (s : State) → Bytes s → Byte (aSource f s)
 a-byte f s b =
-    either (caToW f) 0 (getD (aSources s) (f .ca) 0) (omega arith)
+    below (caToW f) 0 (getD (aSources s) (f .ca) 0) (omega arith)
     (any Byte (aSources s) 0
     (omega arith, (omega arith, (omega arith, (omega arith, (b .s′, (b .h, (omega arith, (b .r, (b .d, (b .l, (b .g, (b .t, (b .v, (b .u, (b .j, (b .i, tt))))))))))))))))
     (omega arith) (f .ca))
@@ -106,13 +108,13 @@ access-bytes f s b =
         record { m = b .m; n = b .n },
         (
           record { m = b .m; n = b .n },
-          (record { m = b .i; n = b .j }, (record { m = b .u; n = b .v }, (record { m = either (readsLocal (f .cu) s) (s .m) (s .l) (b .m) (b .l); n = b .t }, tt))),
+          (record { m = b .i; n = b .j }, (record { m = b .u; n = b .v }, (record { m = below (readsLocal (f .cu) s) (s .m) (s .l) (b .m) (b .l); n = b .t }, tt))),
         ),
       ),
     ) there (f .cm)
 
 pub fetched-byte : (main local : List ℕ) (a : Access) → AllBytes main → AllBytes local → Byte (fetchedOf main local a)
-fetched-byte main local a hm hl = either (a .fetches) _ 0 (either (a .local) _ _ (hl (a .n)) (hm (mainAddress a))) (omega arith)
+fetched-byte main local a hm hl = below (a .fetches) _ 0 (below (a .local) _ _ (hl (a .n)) (hm (mainAddress a))) (omega arith)
 
 -- e
 status-byte : (f : Fields) (z : Sum) (s : ℕ) → Byte s → Byte (statusOf f z s)
@@ -140,7 +142,7 @@ status-byte f z s h =
                     on s 0 true h,
                     (
                       on s 2 false h,
-                      (either (eqb (z .result) 0) s (withBit s 2 true) h (on s 2 true h), (on s 6 false h, (on s 6 true h, (on s 7 false h, (on s 7 true h, tt))))),
+                      (below (eqb (z .result) 0) s (withBit s 2 true) h (on s 2 true h), (on s 6 false h, (on s 6 true h, (on s 7 false h, (on s 7 true h, tt))))),
                     ),
                   ),
                 ),
@@ -150,18 +152,19 @@ status-byte f z s h =
         ),
       ),
     ) h (f .cs) in
-    either (saves (f .cc)) _ _ (on _ 3 (z .ac) changed) changed
+    below (saves (f .cc)) _ _ (on _ 3 (z .ac) changed) changed
 
-next-fits : (f : Fields) (s : State) → f .cn < 64 → f .ca < 16 → f .ck < 16 → s .wx < 65536 → nextOf f s < 65536
+next-fits : (f : Fields) (s : State) → f .cn < 64 → f .ca < 16 → f .ck < 16 → s .wx < 65536 → s .fwx < 65536 → nextOf f s < 65536
 unfolding nextOf
-next-fits f s n a k h =
-    let w : wOf f (s .wx) < 256 = either (caToW f) (f .ca) _ (omega arith) (either (kToW f) (f .ck) _ (omega arith) (omega arith)) in
-    omega (arith, one-lt (getD (highBranches s) (f .ch) false), one-lt (getD (lowBranches s) (f .cl) false))
+next-fits f s n a k h held =
+    let w : wOf f (s .wx) < 256 = below (caToW f) (f .ca) _ (omega arith) (below (kToW f) (f .ck) _ (omega arith) (omega arith)) in
+    let formed : wOf f (s .wx) * 256 + xOf f s < 65536 = omega (arith, one-lt (getD (highBranches s) (f .ch) false), one-lt (getD (lowBranches s) (f .cl) false)) in
+    below (isReturn f) (s .fwx) _ held formed
 
 pub after-bytes : (f : Fields) (z : Sum) (a : Access) (b : ℕ) (s : State) → f .cn < 64 → f .ca < 16 → f .ck < 16
     → Byte (z .result) → Addressed a → Byte b → Bytes s → Bytes (after f z a b s)
 after-bytes f z a b s cn ca ck hz ha hb k =
-    let to : (code old : ℕ) → Byte old → Byte (into code (f .cd) (z .result) old) = λ code old h. either (eqb (f .cd) code) (z .result) old hz h in
+    let to : (code old : ℕ) → Byte old → Byte (into code (f .cd) (z .result) old) = λ code old h. below (eqb (f .cd) code) (z .result) old hz h in
     record {
       i = to 15 (s .i) (k .i);
       j = to 14 (s .j) (k .j);
@@ -176,7 +179,8 @@ after-bytes f z a b s cn ca ck hz ha hb k =
       h = to 5 (s .h) (k .h);
       m = ha .m;
       n = ha .n;
-      wx = next-fits f s cn ca ck (k .wx);
+      wx = next-fits f s cn ca ck (k .wx) (k .fwx);
+      fwx = k .fwx;
       arriving = hb;
     }
 

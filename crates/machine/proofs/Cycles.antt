@@ -41,6 +41,13 @@ module _ (f : Fields) (main local : List ℕ) (s : State) where
     pub on-ran : outside (length main) (accessIn f s) ≡ false → stepOf f main local s ≡ ranOf f main local s
     on-ran o = rw (e, u, o)
 
+-- the state after the fields of a word
+abbrev pub afterFields : Fields → List ℕ → List ℕ → State → State
+afterFields f main local s =
+    let e : State = entered f s in
+    let a : Access = accessOf f e in
+    after f (sumIn f e) a (fetchedOf main local a) e
+
 -- what runs, put together from its parts
 pub ran-is : (f : Fields) (main local main′ local′ : List ℕ) (s e t : State) (a : Access) (z : Sum) (b : ℕ)
     → e ≡ entered f s → a ≡ accessOf f e → z ≡ sumIn f e → b ≡ fetchedOf main local a → t ≡ after f z a b e

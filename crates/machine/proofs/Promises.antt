@@ -94,6 +94,14 @@ module _ (store main local : List ℕ) (s : State) where
         λ h. let (t, r) = ran-ran f main local s in (t, (λ i. decided (none-first cs (h .0) i) (h .1 i) f main local s .answer) ∙ r),
       )
 
+  -- what it then does is what the fields of its word do
+  pub ran-fields : (t : State) → cycleOf store main local s .answer ≡ Ran t → cycleOf store main local s ≡ ranOf (fieldsOf (wordAt store s)) main local s
+  unfolding cycleOf
+  ran-fields t e =
+      let f : Fields = fieldsOf (wordAt store s) in
+      let (none, on) = ran-exactly .0 (t, e) in
+      λ i. decided (none-first (cycleChecks store main local s) none i) (on i) f main local s
+
 -- ---- what is shown of the word that would run next is the work of its cycle
 
 module _ (store main local : List ℕ) (s : State) where

@@ -20,7 +20,7 @@ places = 4 ∷ 5 ∷ 6 ∷ 7 ∷ 7 ∷ 8 ∷ 9 ∷ 12 ∷ 15 ∷ 20 ∷ 21 ∷ [
 
 abbrev table : List ℕ
 table =
-    4 ∷ 5 ∷ 5 ∷ 5 ∷ 5 ∷ 3 ∷ 4 ∷ 12 ∷ 15 ∷ 15 ∷ 6 ∷ 7 ∷ 7 ∷ 7 ∷ 7 ∷ 1 ∷ 3 ∷ 3 ∷ 3 ∷ 3 ∷ 2 ∷ 2 ∷ 2 ∷ 2 ∷ 2 ∷ 0 ∷ 1 ∷ 2 ∷ 3 ∷ 6 ∷ 1 ∷ 1 ∷ 1
+    4 ∷ 5 ∷ 5 ∷ 5 ∷ 5 ∷ 3 ∷ 4 ∷ 12 ∷ 15 ∷ 15 ∷ 6 ∷ 7 ∷ 7 ∷ 7 ∷ 7 ∷ 1 ∷ 1 ∷ 1 ∷ 1 ∷ 1 ∷ 2 ∷ 2 ∷ 2 ∷ 2 ∷ 2 ∷ 0 ∷ 1 ∷ 2 ∷ 3 ∷ 6 ∷ 1 ∷ 1 ∷ 1
     ∷ 1 ∷ 1 ∷ 1 ∷ 1 ∷ 1 ∷ 1 ∷ 1 ∷ 1 ∷ 2 ∷ 3 ∷ 4 ∷ 4 ∷ 5 ∷ 14 ∷ 15 ∷ 15 ∷ 15 ∷ 1 ∷ 1 ∷ 1 ∷ 1 ∷ 1 ∷ []
 
 -- the code is among those of the row from its place k on
@@ -80,7 +80,7 @@ pub found-is : (f : Fields) → found (codesOf f) 0 11 ≡ unmodelledOf f
 unfolding found hit unmodelledOf
 found-is f =
     rw (
-      where-applies (ltb (f .cm) 3) (f .cu) (1 ∷ 3 ∷ 3 ∷ 3 ∷ 3 ∷ []) refl,
+      where-applies (ltb (f .cm) 3) (f .cu) (1 ∷ 1 ∷ 1 ∷ 1 ∷ 1 ∷ []) refl,
       where-applies (leb 3 (f .cm)) (f .cu) (2 ∷ 2 ∷ 2 ∷ 2 ∷ 2 ∷ []) refl,
       where-applies (not (caToW f)) (f .ca) (0 ∷ 1 ∷ 2 ∷ 3 ∷ 6 ∷ []) refl,
     ) (simp or-self-left)

@@ -5,7 +5,7 @@ use mathlib.Core.Bool.{Bool, true, false, cond, not, _&&_}
 use lib.ListN.{getD}
 use Rattle.digits.specs.Bits.{one, bit}
 use Rattle.digits.specs.Digits.{bothDecimal}
-use Rattle.word.specs.Parity.{caToW, kToW}
+use Rattle.word.specs.Parity.{caToW, kToW, isReturn}
 use Rattle.word.specs.declared.Fields.{Fields}
 use Rattle.machine.specs.declared.State.{State}
 
@@ -59,6 +59,7 @@ wOf f wx = cond (caToW f) (f .ca) (cond (kToW f) (f .ck) (wx / 256))
 abbrev pub xOf : Fields → State → ℕ
 xOf f s = f .cn * 4 + one (getD (highBranches s) (f .ch) false) * 2 + one (getD (lowBranches s) (f .cl) false)
 
--- the address of the next word, from the state that has the arriving byte in R; its AC, 1BC and Z0 are the previous cycle's
+-- the address of the next word, from the state that has the arriving byte in R; its AC, 1BC and Z0 are the previous cycle's. "CU 3 with
+-- CM 0 to 2" restores FWX "as the next WX, over anything CN, CH and CL say"
 unfoldable pub nextOf : Fields → State → ℕ
-nextOf f s = wOf f (s .wx) * 256 + xOf f s
+nextOf f s = cond (isReturn f) (s .fwx) (wOf f (s .wx) * 256 + xOf f s)

@@ -7,6 +7,7 @@ use lib.ListN.{getD, length}
 use Rattle.digits.specs.Refusal.{Check, first}
 use Rattle.digits.specs.Sizes.{sizesWrong}
 use Rattle.word.specs.Layout.{lineOf, fieldsOf}
+use Rattle.word.specs.Parity.{isReturn}
 use Rattle.word.specs.Word.{faultChecks, takenApart}
 use Rattle.word.specs.declared.Apart.{Apart}
 use Rattle.word.specs.declared.Apart.the-variants as A
@@ -89,6 +90,9 @@ after f z a fetched s =
       -- "the state must keep them as latches for the display"
       «digit_carry» = z .«digit_carry»;
       invalid = z .invalid;
+      -- "The return word closes the trap."
+      fwx = s .fwx;
+      owed = not (isReturn f) && s .owed;
     }
 
 -- a to e: what the fields do

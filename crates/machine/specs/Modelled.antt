@@ -25,8 +25,8 @@ codeRows f =
     codeRow CH true (f .ch) (4 ∷ 5 ∷ []) ∷
     codeRow CL true (f .cl) (3 ∷ 4 ∷ 12 ∷ 15 ∷ []) ∷
     codeRow CM true (f .cm) (6 ∷ 7 ∷ []) ∷
-    -- Write, none, Store: only CU 0 and 2
-    codeRow CU (ltb (f .cm) 3) (f .cu) (1 ∷ 3 ∷ []) ∷
+    -- Write, none, Store: only CU 0, 2 and 3, which is the return
+    codeRow CU (ltb (f .cm) 3) (f .cu) (1 ∷ []) ∷
     -- a read: only CU 0, 1 and 3
     codeRow CU (leb 3 (f .cm)) (f .cu) (2 ∷ []) ∷
     -- "Where CL = 2, CA is a module number and every value of it is modelled."

@@ -41,6 +41,8 @@ entered f s =
       «arriving_byte» = 0;
       «digit_carry» = s .«digit_carry»;
       invalid = s .invalid;
+      fwx = s .fwx;
+      owed = s .owed;
     }
 
 -- "A by CA: 4 S, 5 H, 7 R, 8 D, 9 L, 10 G, 11 T, 12 V, 13 U, 14 J, 15 I"

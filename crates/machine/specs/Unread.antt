@@ -35,6 +35,8 @@ withLamps carry invalid s =
       «arriving_byte» = s .«arriving_byte»;
       «digit_carry» = carry;
       invalid = invalid;
+      fwx = s .fwx;
+      owed = s .owed;
     }
 
 -- a cycle that ran set both lamps; a stop and a refusal left them

@@ -3,6 +3,7 @@ ghost use mathlib.Core.Path.{_≡_};
 ghost use mathlib.Core.Bool.{false};
 ghost use Prim.Native.Nat.{_<_};
 ghost use lib.ListN.{getD};
+ghost use Rattle.word.specs.Parity.{isReturn};
 ghost use Rattle.machine.specs.Branch.{highBranches, lowBranches, wOf, nextOf};
 use crate::State;
 use digits::bit;
@@ -75,12 +76,20 @@ fn w_of(f: Fields, wx: u16) -> u8
     (wx / 256) as u8
 }
 
-// The address of the next word.
+// The word returns from a trap.
+pub(crate) fn is_return(f: Fields) -> bool
+    ensures { λ r. ⌜ r ≡ isReturn f ⌝ }
+{
+    (f.cm < 3) & (f.cu == 3)
+}
+
+// The address of the next word: FWX, or what W, CN, CH and CL give.
 pub(crate) fn next_of(f: Fields, s: State) -> u16
     requires { ⌜ f .cn < 64 ⌝ }
     ensures { λ r. ⌜ r ≡ nextOf f s ⌝ }
 {
     let x6 = digits::one(high_branch(f.ch, s));
     let x7 = digits::one(low_branch(f.cl, s));
-    w_of(f, s.wx) as u16 * 256 + (f.cn * 4 + x6 * 2 + x7) as u16
+    let formed = w_of(f, s.wx) as u16 * 256 + (f.cn * 4 + x6 * 2 + x7) as u16;
+    if is_return(f) { s.fwx } else { formed }
 }

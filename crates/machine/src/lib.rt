@@ -15,7 +15,8 @@ use adder::Work;
 use word::Apart;
 use word::Fields;
 
-// What the lamps show. With nothing arriving the arriving byte means nothing.
+// What the lamps show. With nothing arriving the arriving byte means nothing. FWX is the WX that a trap broke into, and a return is owed
+// until a return word has run.
 pub struct State {
     pub i: u8,
     pub j: u8,
@@ -40,6 +41,8 @@ pub struct State {
     pub arriving_byte: u8,
     pub digit_carry: bool,
     pub invalid: bool,
+    pub fwx: u16,
+    pub owed: bool,
 }
 
 // d. The address, the kind and the latch after the word, and what storage is to do.
@@ -94,6 +97,8 @@ fn after(f: Fields, z: Sum, a: Access, fetched: u8, s: State) -> State
         arriving_byte: fetched,
         digit_carry: z.digit_carry,
         invalid: z.invalid,
+        fwx: s.fwx,
+        owed: !branch::is_return(f) & s.owed,
     }
 }
 

@@ -17,6 +17,8 @@ use Rattle.word.specs.declared.Apart.{Apart}
 use Rattle.word.specs.declared.Packed.{Packed}
 use Rattle.machine.specs.Cycle.{Outcome, outcome, nextSumOf}
 use Rattle.machine.specs.declared.State.{State}
+use Rattle.trap.specs.Trap.{trapOf}
+use Rattle.trap.specs.declared.Trapped.{Trapped}
 use Rattle.machine.specs.declared.NextSum.{NextSum}
 use Rattle.run.specs.Run.{runOf}
 use Rattle.run.specs.declared.Finished.{Finished}
@@ -27,7 +29,7 @@ use Rattle.signed.specs.declared.ReadOut.the-variants as R
 use Rattle.signed.proofs.Trips.{read-whole}
 use Rattle.channels.specs.Channels.{recordLength, loaded}
 use Rattle.panel.specs.Fields.{fieldsIn}
-use Rattle.panel.specs.Answers.{REFUSED, coded, counted, answered, answerApart, takeApartCall, answerPacked, packCall, Called, called, short, endingCode, recordAfter, ranBy, runCall, answerNext, nextSumCall, addedCode, addedBy, readSignedCall}
+use Rattle.panel.specs.Answers.{REFUSED, coded, counted, answered, answerApart, takeApartCall, answerPacked, packCall, Called, called, short, endingCode, recordAfter, ranBy, runCall, answerTrap, trapCall, answerNext, nextSumCall, addedCode, addedBy, readSignedCall}
 
 -- ---- a word
 
@@ -84,6 +86,18 @@ module _ (store main local state : List ℕ) (budget : ℕ) where
       → out ≡ recordAfter (f .count) (f .state) state → k ≡ endingCode (f .ending) → r ≡ counted k (f .count) → called r m l out ≡ runCall store main local state budget
   run-any m l out s f k r h in-state o p e q =
       (λ i. called ((q ∙ ap (λ (x : ℕ). counted x (f .count)) e) i) m l (p i)) ∙ ap (λ (x : Outcome Finished). ranBy x state) (o ∙ ap (runOf budget store main local) in-state) ∙ run-else h
+
+-- ---- a trap
+
+module _ (address : ℕ) (state : List ℕ) where
+  pub trap-short : length state < recordLength → answered 19 state ≡ trapCall address state
+  unfolding trapCall
+  trap-short h = rw (lt-ltb (length state) recordLength h)
+
+  pub trap-is : recordLength ≤ length state → (s : State) (a x : Trapped) → s ≡ loaded state → a ≡ trapOf address s → a ≡ x → answerTrap x state ≡ trapCall address state
+  unfolding trapCall
+  trap-is h s a x in-state is e =
+      ap (λ (y : Trapped). answerTrap y state) (sym e ∙ is ∙ ap (trapOf address) in-state) ∙ rw (le-ltb (length state) recordLength h)
 
 -- ---- the work of the next word
 

@@ -32,6 +32,7 @@ use Rattle.panel.proofs.panel_add_signed.Reads as add-signed
 use Rattle.panel.proofs.panel_sub_signed.Reads as sub-signed
 use Rattle.panel.proofs.panel_read_deck.Reads as read-deck
 use Rattle.panel.proofs.panel_write_deck.Reads as write-deck
+use Rattle.panel.proofs.panel_trap.Reads as trap
 use Rattle.panel.proofs.panel_next_sum.Reads as next-sum
 use Rattle.panel.proofs.panel_start.Reads as start
 use Rattle.panel.proofs.panel_start_signed.Reads as start-signed
@@ -135,6 +136,9 @@ read-deck-sole κs args r q x y a b = sole a b
 
 pub write-deck-sole : (κs : _) (args : _) (r q : ℕ) (x y : _) → write-deck.Post κs args r x → write-deck.Post κs args q y → answered r (now (x .1 .0)) ≡ answered q (now (y .1 .0))
 write-deck-sole κs args r q x y a b = sole a b
+
+pub trap-sole : (κs : _) (args : _) (r q : ℕ) (x y : _) → trap.Post κs args r x → trap.Post κs args q y → answered r (now (x .1 .0)) ≡ answered q (now (y .1 .0))
+trap-sole κs args r q x y a b = sole a b
 
 pub next-sum-sole : (κs : _) (args : _) (r q : ℕ) (x y : _) → next-sum.Post κs args r x → next-sum.Post κs args q y → answered r (now (x .1 .1 .0)) ≡ answered q (now (y .1 .1 .0))
 next-sum-sole κs args r q x y a b = sole a b

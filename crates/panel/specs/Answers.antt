@@ -1,10 +1,10 @@
 -- What each function of panel.h answers, and what it leaves in all it is lent. Assumes nothing.
-use Prim.Native.Nat.{ℕ, _+_, _*_, _^_}
+use Prim.Native.Nat.{ℕ, _+_, _*_, _/_, _%_, _^_}
 use mathlib.Core.List.{List, [], _∷_}
 use mathlib.Core.Bool.{true, false, cond, not, _||_}
 use lib.Dec.{eqb, ltb}
 use lib.IntN.{ℤ}
-use lib.ListN.{length}
+use lib.ListN.{length, set}
 use Rattle.digits.specs.Bits.{one}
 use Rattle.word.specs.Word.{takenApart, packed}
 use Rattle.word.specs.declared.Apart.{Apart}
@@ -12,9 +12,12 @@ use Rattle.word.specs.declared.Apart.the-variants as A
 use Rattle.word.specs.declared.Packed.{Packed}
 use Rattle.word.specs.declared.Packed.the-variants as P
 use Rattle.machine.specs.Cycle.{Outcome, outcome, cycleOf, nextSumOf}
+use Rattle.trap.specs.Trap.{trapOf}
 use Rattle.machine.specs.declared.State.{State}
 use Rattle.machine.specs.declared.Cycled.{Cycled}
 use Rattle.machine.specs.declared.Cycled.the-variants as C
+use Rattle.trap.specs.declared.Trapped.{Trapped}
+use Rattle.trap.specs.declared.Trapped.the-variants as T
 use Rattle.machine.specs.declared.NextSum.{NextSum}
 use Rattle.machine.specs.declared.NextSum.the-variants as N
 use Rattle.run.specs.Run.{runOf}
@@ -37,7 +40,7 @@ use Rattle.signed.specs.Signed.{readSigned, writeSigned, fieldAfter}
 use Rattle.signed.specs.declared.ReadOut.{ReadOut}
 use Rattle.signed.specs.declared.ReadOut.the-variants as S
 use Rattle.signed.specs.declared.Wrote.{Wrote}
-use Rattle.signed.specs.declared.Wrote.the-variants as T
+use Rattle.signed.specs.declared.Wrote.the-variants as F
 use Rattle.channels.specs.Lamps.{width, kindsOf}
 use Rattle.channels.specs.Channels.{recordLength, workChannels, saved, loaded, worked}
 use Rattle.panel.specs.Fields.{fieldBytes, fieldsIn}
@@ -145,6 +148,20 @@ unfoldable pub runCall : List ℕ → List ℕ → List ℕ → List ℕ → ℕ
 runCall store main local state budget =
     cond (ltb (length state) recordLength) (short main local state) (ranBy (runOf budget store main local (loaded state)) state)
 
+-- ---- a trap between two cycles
+
+-- of a trap that is taken "nothing else moves": the bytes of WX, of FWX and of the latch alone are written
+abbrev pub placed : State → List ℕ → List ℕ
+placed t state = set (set (set (set (set state 13 (t .wx / 256)) 14 (t .wx % 256)) 24 (t .fwx / 256)) 25 (t .fwx % 256)) 26 (one (t .owed))
+
+-- "0, or 19, 29 or 30, and then nothing is changed"
+abbrev pub answerTrap : Trapped → List ℕ → Answered ℕ
+answerTrap (T.Taken t) state = answered 0 (placed t state)
+answerTrap (T.Refused t number) state = answered number state
+
+unfoldable pub trapCall : ℕ → List ℕ → Answered ℕ
+trapCall address state = cond (ltb (length state) recordLength) (answered 19 state) (answerTrap (trapOf address (loaded state)) state)
+
 -- ---- the work of the word that would run next
 
 -- "0, with PANEL_WORK bytes written; 1 where no sum would be made"
@@ -238,8 +255,8 @@ readSignedCall field number = answerSigned (readSigned field) number
 
 -- "0, with the field written; or the refusal's number"
 abbrev pub wroteNumber : Wrote → ℕ
-wroteNumber T.Written = 0
-wroteNumber (T.Refused n) = n
+wroteNumber F.Written = 0
+wroteNumber (F.Refused n) = n
 
 unfoldable pub writeSignedCall : ℤ → List ℕ → Answered ℕ
 writeSignedCall number field = answered (wroteNumber (writeSigned number field)) (fieldAfter number field)

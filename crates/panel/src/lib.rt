@@ -5,7 +5,7 @@ ghost use mathlib.Core.Path.{_≡_};
 ghost use Prim.Native.Nat.{_≤_};
 ghost use lib.ListN.{length};
 ghost use Rattle.machine.specs.Cycle.{outcome};
-ghost use Rattle.panel.specs.Answers.{coded, counted, answered, takeApartCall, packCall, called, cycleCall, endingCode, recordAfter, runCall, nextSumCall, started, startCall, startSignedCall, handed, shippedCall, shippedSignedCall, addedCode, addDecimalCall, addSignedCall, subSignedCall, readDeckCall, writeDeckCall, readSignedCall, writeSignedCall};
+ghost use Rattle.panel.specs.Answers.{coded, counted, answered, takeApartCall, packCall, called, cycleCall, endingCode, recordAfter, runCall, placed, trapCall, nextSumCall, started, startCall, startSignedCall, handed, shippedCall, shippedSignedCall, addedCode, addDecimalCall, addSignedCall, subSignedCall, readDeckCall, writeDeckCall, readSignedCall, writeSignedCall};
 ghost use Rattle.digits.specs.Lent.{over};
 ghost use Rattle.channels.specs.Channels.{recordLength, saved, worked};
 use adder::Work;
@@ -17,6 +17,7 @@ use machine::State;
 use run::Ending;
 use signed::ReadOut;
 use signed::Wrote;
+use trap::Trapped;
 use word::Apart;
 use word::Packed;
 
@@ -34,7 +35,7 @@ const SUMMED: u8 = 4;
 const BAD_DIGIT: u8 = 5;
 
 // PANEL_STATE and PANEL_WORK, the records' lengths, and how many fields a word is taken apart into.
-const STATE: usize = 24;
+const STATE: usize = 27;
 
 const WORK: usize = 8;
 
@@ -246,6 +247,36 @@ pub extern "C" fn panel_shipped_signed(words: &mut [u64]) -> u32
     ensures { λ r. ⌜ answered r (now (words .exit)) ≡ shippedSignedCall (now (words .entry)) ⌝ }
 {
     handed(&apsp::words(), words)
+}
+
+// Puts WX, FWX and the latch of a state in its record, and no other byte.
+fn place(t: State, state: &mut [u8])
+    requires { ⌜ recordLength ≤ length (now state) ⌝ }
+    ensures { λ _. ⌜ now (state .exit) ≡ placed t (now (state .entry)) ⌝ }
+{
+    let bytes = channels::saved(t);
+    state[13] = bytes[13];
+    state[14] = bytes[14];
+    state[24] = bytes[24];
+    state[25] = bytes[25];
+    state[26] = bytes[26];
+}
+
+// A trap between two cycles: 0, or the refusal's number.
+#[no_mangle]
+pub extern "C" fn panel_trap(address: u32, state: &mut [u8]) -> u32
+    ensures { λ r. ⌜ answered r (now (state .exit)) ≡ trapCall address (now (state .entry)) ⌝ }
+{
+    if state.len() < STATE {
+        return 19;
+    }
+    match trap::trap(channels::loaded(state), address) {
+        Trapped::Taken(t) => {
+            place(t, state);
+            0
+        }
+        Trapped::Refused(_, number) => number as u32,
+    }
 }
 
 // The carry out, or the overflow, stands where a refusal's field stands.

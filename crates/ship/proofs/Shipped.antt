@@ -1,4 +1,4 @@
--- No word of either program is refused, and the deck of each is one block. Assumes nothing.
+-- No word of any of the three is refused, and the deck of each is one block. Assumes nothing.
 use Prim.Native.Nat.{ℕ}
 use mathlib.Core.Path.{_≡_, refl, sym, subst, _∙_}
 use mathlib.Core.List.{List}
@@ -14,6 +14,7 @@ use Rattle.deck.proofs.Written.{length-deck}
 use Rattle.decimal.specs.Program.{shipped}
 use Rattle.apsp.specs.Program.{signedWords}
 use Rattle.ship.specs.Block.{OneBlock}
+use Rattle.ship.specs.Lesson.{lesson}
 
 pub add-fits : OneBlock shipped
 unfolding OneBlock wordChecks shipped packed inWidth ones
@@ -22,6 +23,10 @@ add-fits = (refl, length-deck shipped)
 pub apsp-fits : OneBlock signedWords
 unfolding OneBlock wordChecks signedWords packed inWidth ones
 apsp-fits = (refl, length-deck signedWords)
+
+pub trap-fits : OneBlock lesson
+unfolding OneBlock wordChecks lesson shipped packed inWidth ones
+trap-fits = (refl, length-deck lesson)
 
 pub written : (words room : List ℕ) → OneBlock words → length room ≡ 512 → deckAfter words room ≡ deckOf words
 unfolding OneBlock

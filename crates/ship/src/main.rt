@@ -1,9 +1,10 @@
-// Writes the deck of a shipped program to standard output: of the decimal add, or of AP and SP.
+// Writes the deck of a shipped program to standard output: of the decimal add, of AP and SP, or of the lesson of a trap.
 ghost use mathlib.Core.Path.{_≡_};
 ghost use Rattle.deck.specs.Deck.{deckOf};
 ghost use Rattle.decimal.specs.Program.{shipped};
 ghost use Rattle.apsp.specs.Program.{signedWords};
 ghost use Rattle.ship.specs.Block.{OneBlock};
+ghost use Rattle.ship.specs.Lesson.{lesson};
 use libc::STDERR_FILENO;
 use libc::STDOUT_FILENO;
 
@@ -29,6 +30,23 @@ fn apsp_deck() -> [u8; 512]
     deck_of(&apsp::words())
 }
 
+// The shipped words, and the routine behind them: what each word is for stands in specs/Lesson.antt.
+fn lesson() -> [u64; 23]
+    ensures { λ r. ⌜ r ≡ lesson ⌝ }
+{
+    let mut words = [0u64; 23];
+    digits::copy_words(&decimal::words(), &mut words);
+    words[21] = 0x0B0812801A6040; // 15
+    words[22] = 0x01001D00100001; // 16
+    words
+}
+
+fn trap_deck() -> [u8; 512]
+    ensures { λ r. ⌜ r ≡ deckOf lesson ⌝ }
+{
+    deck_of(&lesson())
+}
+
 fn tell(line: &[u8]) {
     io::write_all(STDERR_FILENO, line);
 }
@@ -48,7 +66,11 @@ fn named(word: &[u8]) {
         write(&apsp_deck());
         return;
     }
-    tell(b"ship: argument 1 is neither add nor apsp\n");
+    if check::same(word, b"trap") {
+        write(&trap_deck());
+        return;
+    }
+    tell(b"ship: argument 1 is neither add nor apsp nor trap\n");
 }
 
 // The decimal add where no program is named.

@@ -16,7 +16,7 @@ refusalWords =
     "PA is wrong" ∷  -- 5
     "PS is wrong" ∷  -- 6
     "PC is wrong" ∷  -- 7
-    "CL = 2 and K to W in one word" ∷  -- 8
+    "CL = 2 and K to W, or a return, in one word" ∷  -- 8
     "PK is wrong" ∷  -- 9
     "a code is not modelled" ∷  -- 10
     "the main address is not in main storage" ∷  -- 11
@@ -37,8 +37,8 @@ refusalWords =
     "the sign digit is below A" ∷  -- 26
     "the number has more than fifteen digits" ∷  -- 27
     "no such refusal" ∷  -- 28
-    "no such refusal" ∷  -- 29
-    "no such refusal" ∷  -- 30
+    "a trap is open, and its return is owed" ∷  -- 29
+    "the trap address is over 4095" ∷  -- 30
     "no such refusal" ∷  -- 31
     "no such refusal" ∷  -- 32
     "the signed field is not of 8 bytes" ∷  -- 33

@@ -16,7 +16,7 @@ const LENGTHS: [u8; 34] = [
     11,
     11,
     11,
-    29,
+    43,
     11,
     22,
     39,
@@ -37,8 +37,8 @@ const LENGTHS: [u8; 34] = [
     25,
     39,
     15,
-    15,
-    15,
+    38,
+    29,
     15,
     15,
     34,
@@ -64,7 +64,7 @@ pub fn words(number: u8, room: &mut [u8]) -> Written
         PA is wrong                                                     \
         PS is wrong                                                     \
         PC is wrong                                                     \
-        CL = 2 and K to W in one word                                   \
+        CL = 2 and K to W, or a return, in one word                     \
         PK is wrong                                                     \
         a code is not modelled                                          \
         the main address is not in main storage                         \
@@ -85,8 +85,8 @@ pub fn words(number: u8, room: &mut [u8]) -> Written
         the sign digit is below A                                       \
         the number has more than fifteen digits                         \
         no such refusal                                                 \
-        no such refusal                                                 \
-        no such refusal                                                 \
+        a trap is open, and its return is owed                          \
+        the trap address is over 4095                                   \
         no such refusal                                                 \
         no such refusal                                                 \
         the signed field is not of 8 bytes                              \

@@ -59,6 +59,10 @@ caToW f = eqb (f .cl) 2
 abbrev pub kToW : Fields → Bool
 kToW f = ltb (f .cm) 3 && eqb (f .cu) 2
 
+-- the return word: "CU 3 with CM 0 to 2"
+abbrev pub isReturn : Fields → Bool
+isReturn f = ltb (f .cm) 3 && eqb (f .cu) 3
+
 -- "PK covers CA and AA where CL = 2, and CK where the word sends K to W; elsewhere PK is free."
 abbrev pub pkWrong : List ℕ → Bool
 pkWrong l = caToW (named l) && wrong (covered (CA ∷ AA ∷ []) PK l) || kToW (named l) && wrong (covered (CK ∷ []) PK l)

@@ -6,16 +6,16 @@ use lib.Dec.{leb, ltb}
 use Rattle.digits.specs.Line.{join, fit}
 use Rattle.digits.specs.Refusal.{Check, first, answer}
 use Rattle.word.specs.Layout.{widths, lineOf, named, line}
-use Rattle.word.specs.Parity.{oddBit, values, pnCovers, paCovers, psCovers, pcCovers, pnWrong, paWrong, psWrong, pcWrong, pkWrong, caToW, kToW}
+use Rattle.word.specs.Parity.{oddBit, values, pnCovers, paCovers, psCovers, pcCovers, pnWrong, paWrong, psWrong, pcWrong, pkWrong, caToW, kToW, isReturn}
 use Rattle.word.specs.declared.Fields.{Fields}
 use Rattle.word.specs.declared.Apart.{Apart}
 use Rattle.word.specs.declared.Apart.the-variants as A
 use Rattle.word.specs.declared.Packed.{Packed}
 use Rattle.word.specs.declared.Packed.the-variants as P
 
--- 8: CL = 2 and K to W in one word; 9: PK wrong where it covers something
+-- 8: CL = 2 and K to W in one word; "8 now also covers that CU 3 with CL = 2"; 9: PK wrong where it covers something
 abbrev pub kChecks : List ℕ → List Check
-kChecks l = (8, caToW (named l) && kToW (named l)) ∷ (9, pkWrong l) ∷ []
+kChecks l = (8, caToW (named l) && (kToW (named l) || isReturn (named l))) ∷ (9, pkWrong l) ∷ []
 
 -- 3: one of the top nine bits set; 4, 5, 6, 7: PN, PA, PS, PC wrong; then 8 and 9. l is the word's line
 abbrev pub faultChecks : ℕ → ℕ → List ℕ → List Check

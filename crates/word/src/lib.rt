@@ -7,7 +7,7 @@ ghost use lib.Dec.{eqb};
 ghost use Rattle.digits.specs.Line.{join};
 ghost use Rattle.digits.specs.Refusal.{first};
 ghost use Rattle.word.specs.Layout.{widths, lineOf, fieldsOf, line};
-ghost use Rattle.word.specs.Parity.{paWrong, pkWrong, caToW, kToW};
+ghost use Rattle.word.specs.Parity.{paWrong, pkWrong, caToW, kToW, isReturn};
 ghost use Rattle.word.specs.Word.{kChecks, faultOf, takenApart, inWidth, packed};
 use digits::first_of;
 
@@ -109,6 +109,13 @@ fn k_to_w(word: u64) -> bool
     (word / 0x10_0000_0000 % 8 < 3) & (word / 0x4_0000_0000 % 4 == 2)
 }
 
+// The word returns from a trap.
+fn is_return(word: u64) -> bool
+    ensures { λ r. ⌜ r ≡ isReturn (fieldsOf word) ⌝ }
+{
+    (word / 0x10_0000_0000 % 8 < 3) & (word / 0x4_0000_0000 % 4 == 3)
+}
+
 fn pk_wrong(word: u64) -> bool
     ensures { λ r. ⌜ r ≡ pkWrong (lineOf word) ⌝ }
 {
@@ -120,7 +127,7 @@ fn k_fault(word: u64) -> u8
     ensures { λ r. ⌜ r ≡ first (kChecks (lineOf word)) ⌝ }
 {
     first_of(
-        ca_to_w(word) & k_to_w(word),
+        ca_to_w(word) & (k_to_w(word) | is_return(word)),
         8,
         first_of(pk_wrong(word), 9, 0),
     )

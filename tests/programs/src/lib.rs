@@ -1,6 +1,7 @@
 //! The built programs and the linked panel, run as a user runs them. What they must answer comes from the second engine.
 
 use second::deck::{block_check, write_deck, BLOCK, LONGEST};
+use second::shipped::SHIPPED;
 use std::fs::File;
 use std::io::{Read, Write};
 use std::path::{Path, PathBuf};
@@ -71,6 +72,12 @@ pub fn said(name: &str, arguments: &[&str], input: &[u8]) -> Said {
     run(&mut command(name, arguments), input)
 }
 
+/// What a line says that is typed in a folder, where links to the root commands may stand.
+pub fn typed_in(folder: &Path, line: &str) -> Said {
+    LazyLock::force(&READY);
+    run(Command::new("bash").args(["-c", line]).current_dir(folder), &[])
+}
+
 /// A folder of this test's own under target/, empty.
 pub fn folder(name: &str) -> PathBuf {
     let folder = root().join("target/tried").join(name);
@@ -84,6 +91,11 @@ pub fn file(folder: &Path, name: &str, bytes: &[u8]) -> String {
     let path = folder.join(name);
     std::fs::write(&path, bytes).expect("a file");
     path.to_string_lossy().into_owned()
+}
+
+/// The lesson of a trap: the shipped words, and behind them, from 015 on, a routine that counts in G and returns.
+pub fn lesson() -> Vec<u64> {
+    [&SHIPPED[..], &[0x0B0812801A6040, 0x01001D00100001]].concat()
 }
 
 /// The deck of these words.

@@ -1,14 +1,15 @@
-//! The board's program: all that it prints of additions, runs, lamps and the walk, byte for byte beside the second engine's
-//! text; and all that it tells on standard error, with the status that its root command ends with.
+//! The board's program: all that it prints of additions, runs, traps, lamps and the walk, byte for byte beside the second
+//! engine's text; and all that it tells on standard error, with the status that its root command ends with.
 
 #[path = "../../second/tests/common/mod.rs"]
 mod common;
 
 use common::{one_of, running_word, Bench, Codes, STOP};
 use programs::{
-    breaking, command, deck_of, failing_reads, file, folder, mend, root, run, said, said_to, said_to_full, Said,
+    breaking, command, deck_of, failing_reads, file, folder, lesson, mend, root, run, said, said_to, said_to_full,
+    typed_in, Said,
 };
-use second::board::{self, in_words, View};
+use second::board::{self, in_words, Trap, View};
 use second::deck::{words_of, BLOCK, LONGEST};
 use second::panel::STATE;
 use second::random::Random;
@@ -19,7 +20,8 @@ use second::state::{State, I, J, M, N};
 use second::word::build;
 use std::collections::BTreeSet;
 use std::fs::{self, File};
-use std::path::Path;
+use std::os::unix::fs::symlink;
+use std::path::{Path, PathBuf};
 use std::process::Command;
 use std::time::{Duration, Instant};
 
@@ -118,21 +120,43 @@ fn files(here: &Path, store: &[u64], main: &[u8]) -> Files {
     Files { deck: file(here, "deck", &deck_of(store)), main: file(here, "main", main) }
 }
 
-/// A run from given registers prints what the second engine prints, and is told where it is refused.
-fn runs(here: &Path, bench: &Bench, budget: u64, view: &View) -> Ending {
+/// What a run tells on standard error: each refused trap, the first of those that it did not come to, and its own refusal.
+fn told_of_run(text: &str, ending: Ending, traps: &[Trap]) -> String {
+    let lines = |start: &str| text.lines().filter(|line| line.starts_with(start)).count();
+    let mut told = "board: a trap was refused\n".repeat(lines("TRAP REFUSED "));
+    let cycles: BTreeSet<u64> = traps.iter().map(|trap| trap.before).collect();
+    if let Some(missed) = cycles.iter().nth(lines("TRAP ")) {
+        told += &format!("board: the run ended before the trap of cycle {missed}\n");
+    }
+    if matches!(ending, Ending::Refused { .. }) {
+        told += "board: the run was refused\n";
+    }
+    told
+}
+
+/// Traps as they are asked for, in this order.
+fn asked(traps: &[Trap]) -> Vec<String> {
+    traps.iter().map(|Trap { before, address }| format!("TRAP={before}:{address:03X}")).collect()
+}
+
+/// A run from given registers prints what the second engine prints, and tells what went wrong in it.
+fn runs_with(here: &Path, bench: &Bench, budget: u64, traps: &[Trap], view: &View) -> Ending {
     let Files { deck, main } = files(here, &bench.store, &bench.main);
     let mut arguments = vec!["run".to_owned(), deck, main, budget.to_string()];
-    arguments.extend(given(&bench.state));
+    arguments.extend(given(&bench.state).into_iter().chain(asked(traps)));
     let arguments = viewed(arguments, view);
-    let (text, ending) = board::run(&bench.store, &bench.main, bench.state, budget, view);
+    let (text, ending) = board::run_with_traps(&bench.store, &bench.main, bench.state, budget, traps, view);
     let said = board(&strs(&arguments));
     same(&said.out, &text, &strs(&arguments));
-    let told = match ending {
-        Ending::Refused { .. } => ("board: the run was refused\n", Some(1)),
-        _ => ("", Some(0)),
-    };
-    assert_eq!((said.err.as_str(), said.status), told, "{arguments:?}");
+    let told = told_of_run(&text, ending, traps);
+    let status = i32::from(!told.is_empty());
+    assert_eq!((said.err, said.status), (told, Some(status)), "{arguments:?}");
     ending
+}
+
+/// The same with no trap.
+fn runs(here: &Path, bench: &Bench, budget: u64, view: &View) -> Ending {
+    runs_with(here, bench, budget, &[], view)
 }
 
 /// So many words that stop, over 1,024 bytes.
@@ -227,8 +251,9 @@ fn the_state_before_the_first_cycle_is_shown() {
         (&["sp", "1", "12345678", "TO=0"], "05", "80"),
     ] {
         let line = board(arguments).text().lines().nth(1).map(str::to_owned);
-        let expected =
-            format!("      0 --- 01 00 02 00 {length} 00 00 00 {s} 00 00 00 00 0000  0   0  0  0  0  0 00  0   0");
+        let expected = format!(
+            "      0 --- 01 00 02 00 {length} 00 00 00 {s} 00 00 00 00 0000  0   0  0  0  0  0 00  0   0 0000  0"
+        );
         assert_eq!(line, Some(expected));
     }
 }
@@ -323,12 +348,16 @@ fn the_shipped_decks_run_as_the_commands_do() {
     }
 }
 
-/// A bench of which every part that the command line gives is drawn. Half of the stores have nothing but words that run.
+/// A bench of which every part that the command line gives is drawn. Half of the stores have nothing but words that run, and in
+/// a quarter of all, one word in eight stops.
 fn drawn(random: &mut Random) -> Bench {
     let words = one_of(random, &[1, 62, 63, 256, 1000, 4096, 4096]);
-    let mut bench = common::draw_bench(random, words);
+    let (mut bench, stopping) = (common::draw_bench(random, words), random.below(4) == 0);
     if random.below(2) == 0 {
         bench.store = (0..words as u32).map(|address| running_word(random, address)).collect();
+    }
+    for address in (0..words).step_by(8).filter(|_| stopping) {
+        bench.put(address, STOP);
     }
     let size = one_of(random, &[1, 255, 256, 257, 1024, 65_536, 65_536]);
     bench.main = common::draw_bytes(random, size);
@@ -463,6 +492,210 @@ fn a_budget_has_one_to_seven_digits() {
     }
 }
 
+// ---- traps
+
+fn traps<const COUNT: usize>(asked: [(u64, u32); COUNT]) -> [Trap; COUNT] {
+    asked.map(|(before, address)| Trap { before, address })
+}
+
+/// The lesson's words over the fields of 38 and 47: 18 cycles and a stop. Its routine is at 015 and 016.
+fn taught() -> Bench {
+    let mut bench = Bench { store: lesson(), main: vec![0; 1024], ..stops(1) };
+    [bench.main[0x100], bench.main[0x200]] = [0x38, 0x47];
+    bench.state = shipped::start(0x100, 0x200, 1, false);
+    bench
+}
+
+/// The endless words, and a routine at 002 and 003 that counts G up and returns.
+fn endless_with_routine() -> Bench {
+    let mut bench = endless();
+    bench.store.resize(4, 0);
+    bench.then(2, 3, &[("CA", 10), ("CB", 3), ("CK", 1), ("CF", 3), ("CG", 1), ("CD", 10)]);
+    bench.put(3, &[("CU", 3)]);
+    bench
+}
+
+/// Cycle 2 is the routine's, and the word broken into runs after its return: all set out by hand.
+#[test]
+fn a_trap_is_as_it_was_set_out() {
+    let (here, bench) = (folder("board_trap"), endless_with_routine());
+    let Files { deck, main } = files(&here, &bench.store, &bench.main);
+    let expected = "  CYCLE  AT  I  J  U  V  L  T  D  R  S  G  H  M  N   WX AC 1BC Z0 AW LS AR AB DC INV  FWX OW  A GA  B GB EB CI BEFORE AFTER
+      1 000 00 01 00 00 00 00 00 00 00 00 00 00 00 0001  0   0  0  0  0  0 00  0   0 0000  0 00 00 11 01 01  0     01    01
+TRAP TO 002, FROM 001
+      2 002 00 01 00 00 00 00 00 00 00 01 00 00 00 0003  0   0  0  0  0  0 00  0   0 0001  1 00 00 11 01 01  0     01    01
+TRAP REFUSED 29 AT 003: a trap is open, and its return is owed
+      3 003 00 01 00 00 00 00 00 00 00 01 00 00 00 0001  0   0  1  0  0  0 00  0   0 0001  0 00 00 00 00 00  0     00    00
+TRAP REFUSED 30 AT 001: the trap address is over 4095
+      4 001 03 01 00 00 00 00 00 00 00 01 00 00 00 0000  0   0  0  0  0  0 00  0   0 0001  0 00 00 33 03 03  0     03    03
+SPENT AT 000
+";
+    let said = board(&["run", &deck, &main, "4", "TRAP=4:1000", "TRAP=2:002", "TRAP=3:FFFF", "FROM=1"]);
+    same(&said.out, expected, &["traps"]);
+    assert_eq!((said.err.as_str(), said.status), ("board: a trap was refused\nboard: a trap was refused\n", Some(1)));
+}
+
+/// Before cycle 19 the lesson stops; from cycle 20 on there is none to break into.
+#[test]
+fn a_trap_breaks_in_before_each_cycle() {
+    let (here, bench) = (folder("board_traps"), taught());
+    for before in (1..=22).chain([100, 101, 1_000_000]) {
+        for view in [View::LINES, View::LAMPS] {
+            assert_eq!(runs_with(&here, &bench, 100, &traps([(before, 0x15)]), &view), Ending::Stopped);
+        }
+    }
+}
+
+/// The routine has two cycles: one later a second trap is refused, whatever its address, and from two later on it is not.
+#[test]
+fn a_second_trap_is_taken_after_the_return() {
+    let (here, bench) = (folder("board_second"), taught());
+    for first in [1, 4, 9] {
+        for (later, address) in (1..=4).flat_map(|later| [(later, 0x15), (later, 0x1000)]) {
+            let mut both = traps([(first, 0x15), (first + later, address)]);
+            runs_with(&here, &bench, 100, &both, &View::LINES);
+            both.reverse();
+            runs_with(&here, &bench, 100, &both, &View::LINES);
+        }
+    }
+}
+
+/// A trap that is refused has its line, and the lines of the run are those of a run without it.
+#[test]
+fn a_refused_trap_leaves_the_run_as_it_is() {
+    let (here, bench) = (folder("board_thirty"), taught());
+    let Files { deck, main } = files(&here, &bench.store, &bench.main);
+    let registers = given(&bench.state);
+    let of = |traps: &[&str]| board(&[&["run", &deck, &main, "100"], &strs(&registers)[..], traps].concat());
+    for address in ["1000", "1015", "8000", "FFFF", "ffff"] {
+        let said = of(&[&format!("TRAP=3:{address}")]);
+        let text = said.text();
+        let (trap, others): (Vec<&str>, Vec<&str>) = text.lines().partition(|line| line.starts_with("TRAP"));
+        assert_eq!(trap, ["TRAP REFUSED 30 AT 002: the trap address is over 4095"]);
+        assert_eq!(others, of(&[]).text().lines().collect::<Vec<_>>());
+        assert_eq!((said.err.as_str(), said.status), ("board: a trap was refused\n", Some(1)));
+        runs_with(&here, &bench, 100, &traps([(3, u32::from_str_radix(address, 16).unwrap())]), &View::LAMPS);
+    }
+}
+
+/// From a stop, from a word that is refused and from where there is none; and to each of these, and back to the routine.
+#[test]
+fn a_trap_breaks_in_before_the_run_would_end() {
+    let here = folder("board_ends");
+    let mut bench = taught();
+    bench.store.push(build(0x17, &[("CM", 6)]).expect("a word"));
+    for wx in [0x00, 0x14, 0x16, 0x17, 0x18, 0xFFF] {
+        for address in [0x00, 0x14, 0x15, 0x16, 0x17, 0x18, 0xFFF, 0x1000] {
+            bench.state.wx = wx;
+            let asked = traps([(1, address), (4, 0x15)]);
+            runs_with(&here, &bench, 5, &asked[..1], &View::LINES);
+            runs_with(&here, &bench, 5, &asked, &View::LINES);
+        }
+    }
+}
+
+/// The budget is spent before a trap, or just not.
+#[test]
+fn a_trap_that_is_not_reached_is_told_by_its_cycle() {
+    let (here, bench) = (folder("board_missed"), endless_with_routine());
+    for budget in 0..=4 {
+        for before in 1..=5 {
+            runs_with(&here, &bench, budget, &traps([(before, 2)]), &View::LINES);
+            runs_with(&here, &bench, budget, &traps([(before + 3, 2), (before, 4096)]), &View::LINES);
+        }
+    }
+    let Files { deck, main } = files(&here, &bench.store, &bench.main);
+    let said = board(&["run", &deck, &main, "9", "TRAP=1000000:2", "TRAP=12:2", "TRAP=10:2", "TRAP=11:2"]);
+    ends_with(&said, "SPENT AT 001");
+    assert_eq!(said.err, "board: the run ended before the trap of cycle 10\n");
+    assert_eq!(said.status, Some(1));
+}
+
+#[test]
+fn the_line_of_a_trap_is_shown_whatever_is_left_out() {
+    let (here, bench) = (folder("board_trap_edges"), taught());
+    let asked = traps([(18, 0x15), (5, 0x15), (6, 0xFFF), (12, 0x15), (40, 0)]);
+    for (from, to) in EDGES {
+        for lamps in [false, true] {
+            runs_with(&here, &bench, 100, &asked, &View { lamps, from, to });
+        }
+    }
+}
+
+/// One to five traps, most of them early: many drawn runs are short.
+fn drawn_traps(random: &mut Random, words: u64) -> Vec<Trap> {
+    let cycles: BTreeSet<u64> = (0..=random.below(5)).map(|_| one_of(random, &[1, 2, 2, 3, 3, 4, 5, 6, 12])).collect();
+    let mut drawn: Vec<Trap> = cycles
+        .into_iter()
+        .map(|before| {
+            let (inside, any) = (random.below(words) as u32, random.below(65_536) as u32);
+            Trap { before, address: one_of(random, &[inside, inside, inside, inside, any]) }
+        })
+        .collect();
+    let first = random.below(drawn.len() as u64) as usize;
+    drawn.rotate_left(first);
+    drawn
+}
+
+/// In half of the stores one word in four returns, so that a second trap may be taken.
+#[test]
+fn drawn_traps_break_into_drawn_runs() {
+    let (random, here) = (&mut Random::new(113), folder("board_drawn_traps"));
+    let (mut lines, mut again) = (Vec::new(), 0);
+    for _ in 0..150 {
+        let (mut bench, returning) = (drawn(random), random.below(2) == 0);
+        for address in (1..bench.store.len()).step_by(4).filter(|_| returning) {
+            bench.put(address, &[("CU", 3)]);
+        }
+        let asked = drawn_traps(random, bench.store.len() as u64);
+        let (budget, lamps) = (one_of(random, &[1, 5, 40, 40, 300]), random.below(4) == 0);
+        let view = View { lamps, ..View::LINES };
+        let ending = runs_with(&here, &bench, budget, &asked, &view);
+        let (text, _) = board::run_with_traps(&bench.store, &bench.main, bench.state, budget, &asked, &view);
+        again += usize::from(text.matches("TRAP TO ").count() > 1);
+        lines.extend((text.clone() + &told_of_run(&text, ending, &asked)).lines().map(str::to_owned));
+    }
+    for start in ["TRAP TO", "TRAP REFUSED 29", "TRAP REFUSED 30", "board: the run ended", "board: the run was refused"]
+    {
+        let count = lines.iter().filter(|line| line.starts_with(start)).count();
+        assert!(count > 4, "{start}: {count}");
+    }
+    assert!(again > 4, "{again} runs are broken into twice");
+}
+
+/// One is made before every other cycle, and each has returned before the next; on the command line the last stands first.
+#[test]
+fn there_may_be_any_number_of_traps() {
+    let (here, mut bench) = (folder("board_many"), endless_with_routine());
+    bench.put(2, &[("CU", 3), ("CA", 10), ("CB", 3), ("CK", 1), ("CF", 3), ("CG", 1), ("CD", 10)]);
+    let asked: Vec<Trap> = (1..=400).rev().map(|place| Trap { before: 2 * place, address: 2 }).collect();
+    assert_eq!(runs_with(&here, &bench, 800, &asked, &View::LINES), Ending::Spent);
+}
+
+#[test]
+fn a_trap_is_asked_for_in_large_letters_and_small_among_the_others() {
+    let (here, bench) = (folder("board_spelt"), endless_with_routine());
+    let Files { deck, main } = files(&here, &bench.store, &bench.main);
+    let text = |address| {
+        let asked = traps([(3, address)]);
+        board::run_with_traps(&bench.store, &bench.main, bench.state, 9, &asked, &View::LINES).0
+    };
+    for trap in ["TRAP=3:2", "trap=3:02", "Trap=03:002", "tRAP=0000003:0002"] {
+        prints(&["run", &deck, &main, "9", trap], &text(2));
+    }
+    for trap in ["TRAP=3:A5B", "trap=3:a5b", "TRAP=3:0a5B", "TRAP=3:A5b"] {
+        same(&board(&["run", &deck, &main, "9", trap]).out, &text(0xA5B), &[trap]);
+    }
+    let view = View { from: 2, to: 6, ..View::LINES };
+    let start = State { registers: bench.state.registers.map(|_| 0x11), ..bench.state };
+    let (text, _) = board::run_with_traps(&bench.store, &bench.main, start, 9, &traps([(7, 2), (3, 2)]), &view);
+    let mut arguments: Vec<String> = NAMES.iter().map(|name| format!("{name}=11")).collect();
+    for (at, argument) in [(0, "TRAP=7:2"), (3, "TO=6"), (9, "trap=3:002"), (16, "FROM=2")] {
+        arguments.insert(at, argument.to_owned());
+    }
+    prints(&[&["run", &deck, &main, "9"], &strs(&arguments)[..]].concat(), &text);
+}
+
 // ---- FROM and TO
 
 const EDGES: [(u64, u64); 12] = [
@@ -562,6 +795,8 @@ CYCLE      1 AT 000
  ........ ........ ........ ........ ........ ........ .......*        .
       1BC       Z0    ALLOW    LOCAL ARRIVING     BYTE DIGIT-CY  INVALID
         .        .        .        .        . ........        .        .
+       FW       FX     OWED
+ ........ ........        .
         A  GATED-A        B  GATED-B ENTERS-B CARRY-IN   BEFORE    AFTER
  .*.***.* .*.***.* ...*...* .......* .......*        . .*.****. .*.****.
 
@@ -584,7 +819,7 @@ fn the_walk_lights_each_lamp_alone() {
     }
     let rows: BTreeSet<&String> = lamps.iter().map(|(name, _)| name).collect();
     let records: BTreeSet<&Vec<u8>> = lamps.iter().map(|(_, record)| record).collect();
-    assert_eq!((rows.len(), records.len(), lamps.len()), (STATE, 136, 136));
+    assert_eq!((rows.len(), records.len(), lamps.len()), (STATE, 153, 153));
 }
 
 // ---- a million lines
@@ -719,7 +954,7 @@ fn usage_is_shown_in_each_spelling() {
 fn usage_names_all_that_can_be_given() {
     let usage = board(&["help"]).text();
     let words: BTreeSet<&str> = usage.split(|c: char| !c.is_ascii_alphanumeric()).collect();
-    for word in ["add", "ap", "sp", "run", "lamps", "walk", "signed", "WX", "FROM", "TO"].iter().chain(&NAMES) {
+    for word in ["add", "ap", "sp", "run", "lamps", "walk", "signed", "WX", "TRAP", "FROM", "TO"].iter().chain(&NAMES) {
         assert!(words.contains(word), "{word}");
     }
     for part in ["digits A to F are allowed", "bad-digit ending"] {
@@ -833,7 +1068,7 @@ fn a_signed_number_that_is_none_is_told() {
 #[test]
 fn what_ap_and_sp_do_not_know_is_told() {
     for (name, _) in SIGNED {
-        for argument in ["0", "1", "", "x", "FROM", "TO=", "FROM=x", "I=1"] {
+        for argument in ["0", "1", "", "x", "FROM", "TO=", "FROM=x", "I=1", "TRAP=1:0A0", "TRAP=0:0A0"] {
             let all = ["lamps", name, "38", "47", "TO=9", argument];
             tells(&[name, "38", "47", argument], "argument 4 is neither FROM=n nor TO=n");
             tells(&all[1..], "argument 5 is neither FROM=n nor TO=n");
@@ -851,8 +1086,22 @@ fn what_an_addition_does_not_know_is_told() {
         let line = format!("argument {} is neither FROM=n nor TO=n, nor 0 or 1 for a carry before them", number + 1);
         tells(&[&["lamps", "add", "38", "47"], arguments].concat(), &line);
     };
-    for argument in ["2", "", "x", "01", "FROM", "FROM=", "FROM=x", "FROM=-1", "TO= 1", "FROM=1A", "I=1", "ROM=1", "=1"]
-    {
+    for argument in [
+        "2",
+        "",
+        "x",
+        "01",
+        "FROM",
+        "FROM=",
+        "FROM=x",
+        "FROM=-1",
+        "TO= 1",
+        "FROM=1A",
+        "I=1",
+        "ROM=1",
+        "=1",
+        "TRAP=1:0A0",
+    ] {
         neither(&[argument], 4);
         neither(&["1", argument], 5);
     }
@@ -875,7 +1124,7 @@ impl Files {
     }
 }
 
-const NEITHER: &str = "is neither a register and its value, as I=HH or WX=HHH, nor FROM=n nor TO=n";
+const NEITHER: &str = "is neither a register and its value, as I=HH or WX=HHH, nor TRAP=CYCLE:HHH, nor FROM=n nor TO=n";
 
 #[test]
 fn what_a_run_does_not_know_is_told() {
@@ -886,6 +1135,49 @@ fn what_a_run_does_not_know_is_told() {
     ] {
         given.tells(&[argument], 5, NEITHER);
         given.tells(&["J=1", "FROM=1", argument], 7, NEITHER);
+    }
+}
+
+/// No cycle, no address, a cycle 0 or over 1,000,000, an address of no or too many digits, and others.
+#[test]
+fn a_trap_that_is_none_is_told() {
+    let given = Files::endless("board_no_trap");
+    let long = "TRAP=5:0A0".to_owned() + &"0".repeat(90);
+    for argument in [
+        "TRAP=0:0A0",
+        "TRAP=0000000:0",
+        "TRAP=5",
+        "TRAP=5:",
+        "TRAP=:0A0",
+        "TRAP=:",
+        "TRAP=",
+        "TRAP",
+        "TRAP=5:12345",
+        "TRAP=5:00000",
+        "TRAP=1000001:0",
+        "TRAP=00000005:0",
+        "TRAP=5:0G0",
+        "TRAP=A:0",
+        "TRAP==5:0",
+        "TRAP:5:0",
+        "TRAP=5:0:0",
+        "TRAP=5::0",
+        "TRAP=5,0A0",
+        "TRAP=5 0A0",
+        "TRAP= 5:0",
+        "TRAP=5: 0",
+        "TRAP=5:0 ",
+        " TRAP=5:0",
+        "TRAP=-5:0",
+        "TRAP=5:-1",
+        "TRAP=5:0x0",
+        "TRAPS=5:0",
+        "RAP=5:0",
+        "T=5:0",
+        &long,
+    ] {
+        given.tells(&[argument], 5, NEITHER);
+        given.tells(&["TRAP=5:1", "TO=1", argument], 7, NEITHER);
     }
 }
 
@@ -901,11 +1193,14 @@ fn what_is_given_twice_is_told() {
     given.tells(&["WX=1", "wx=2"], 6, before);
     given.tells(&["FROM=0", "FROM=0"], 6, before);
     given.tells(&["TO=0", "I=1", "to=9"], 7, before);
+    given.tells(&["TRAP=5:1", "TRAP=5:1"], 6, before);
+    given.tells(&["TRAP=5:1", "TRAP=6:1", "I=1", "trap=0000005:FFF"], 8, before);
+    given.tells(&["TRAP=1:1", "TRAP=1000000:1", "TRAP=1000000:0"], 7, before);
     tells(&["add", "38", "47", "FROM=1", "FROM=1"], "argument 5 was given before");
     tells(&["add", "38", "47", "0", "TO=1", "FROM=1", "TO=1"], "argument 7 was given before");
 }
 
-/// All that can be given, and one more. The first that is wrong is told, however many follow: no number is over 22.
+/// All that can be given once, traps, and one more. The first that is wrong is told, however many follow.
 #[test]
 fn an_argument_has_its_true_number() {
     let given = Files::endless("board_number");
@@ -917,6 +1212,10 @@ fn an_argument_has_its_true_number() {
     given.tells(&[&all[..], &["x"], &hundred].concat(), 21, NEITHER);
     given.tells(&[&all[..], &hundred].concat(), 21, "was given before");
     given.tells(&[&hundred[..], &all].concat(), 6, "was given before");
+    let traps: Vec<String> = (1..=100).map(|cycle| format!("TRAP={cycle}:0")).collect();
+    let traps = strs(&traps);
+    given.tells(&[&traps[..], &all, &["x"]].concat(), 121, NEITHER);
+    given.tells(&[&all[..], &traps, &traps].concat(), 121, "was given before");
 }
 
 #[test]
@@ -976,15 +1275,16 @@ fn a_refused_deck_is_told_in_words() {
     };
     let long = vec![0; LONGEST + BLOCK];
     let module: Codes = &[("CL", 2), ("CA", 4), ("CM", 1)];
-    let decks: [(u8, Vec<u8>); 16] = [
+    let decks: [(u8, Vec<u8>); 17] = [
         (3, turned(63)),
         (3, turned(55)),
         (4, turned(48)),
         (5, turned(47)),
         (6, turned(20)),
         (7, turned(0)),
-        // K to W, and PK, with PS right again
+        // K to W, a return, and PK, with PS right again
         (8, deck_with(module, 1 << 35 | 1 << 20)),
+        (8, deck_with(module, 3 << 34)),
         (9, deck_with(module, 1 << 21 | 1 << 20)),
         (15, Vec::new()),
         (15, three[..3 * BLOCK - 1].to_vec()),
@@ -1060,6 +1360,7 @@ fn a_write_that_fails_is_told_once() {
         &["run", &deck, &main, "100000"],
         &["lamps", "run", &deck, &main, "20000"],
         &["run", &deck, &main, "100000", "TO=0"],
+        &["run", &deck, &main, "9", "TRAP=9:1"],
     ] {
         let said = said_to_full("board", arguments, &[]);
         assert_eq!((said.err.as_str(), said.status), ("board: the output was not written\n", Some(1)), "{arguments:?}");
@@ -1082,14 +1383,20 @@ fn a_write_that_fails_half_way_is_told_once() {
     same(&fs::read(&path).expect("the lines"), &text[..65_536], &["limited"]);
 }
 
-/// Both are told: that the run was refused, and that its text was not written.
+/// Both are told: what went wrong in the run, and that its text was not written.
 #[test]
 fn a_refused_run_that_is_not_written_is_told_twice() {
     let Files { deck, main } = Files::endless("board_both");
-    let said = said_to_full("board", &["run", &deck, &main, "9", "WX=9"], &[]);
-    let told: BTreeSet<&str> = said.err.lines().collect();
-    assert_eq!(told, BTreeSet::from(["board: the run was refused", "board: the output was not written"]));
-    assert_eq!((said.err.lines().count(), said.status), (2, Some(1)));
+    for (argument, line) in [
+        ("WX=9", "board: the run was refused"),
+        ("TRAP=2:1000", "board: a trap was refused"),
+        ("TRAP=10:0", "board: the run ended before the trap of cycle 10"),
+    ] {
+        let said = said_to_full("board", &["run", &deck, &main, "9", argument], &[]);
+        let told: BTreeSet<&str> = said.err.lines().collect();
+        assert_eq!(told, BTreeSet::from([line, "board: the output was not written"]));
+        assert_eq!((said.err.lines().count(), said.status), (2, Some(1)));
+    }
 }
 
 /// What is wrong on the command line is told all the same where the output takes nothing.
@@ -1126,21 +1433,30 @@ fn is_shown(printed: &[&str], shown: &[&str]) -> bool {
     }
 }
 
+/// What a line of a page may begin with, to be typed as it stands. Others, as those of a compiler, are left alone.
+const TYPED: [&str; 6] = ["./board", "./ship", "./lister", "printf ", "head ", "("];
+
+/// A folder of a page's own, with the root commands, and nothing that the page has not made.
+fn desk(page: &str) -> PathBuf {
+    let here = folder(&format!("pages/{page}"));
+    for name in ["board", "ship", "lister"] {
+        symlink(root().join(name), here.join(name)).expect("a link");
+    }
+    here
+}
+
 #[test]
 fn the_pages_show_what_is_printed() {
-    let here = folder("pages");
-    file(&here, "add.deck", &deck_of(&shipped::SHIPPED));
-    file(&here, "main", &[0; 1024]);
     for (page, least) in [("README.md", 3), ("docs/BOARD.md", 15)] {
-        let commands = commands_of(page);
-        let mut tried = 0;
-        for (line, shown) in &commands {
-            let Some(arguments) = line.strip_prefix("./board ") else { continue };
-            let arguments: Vec<&str> = arguments.split(' ').collect();
-            let said = run(command("board", &arguments).current_dir(&here), &[]);
+        let (here, mut tried) = (desk(page), 0);
+        for (line, shown) in commands_of(page) {
+            if !TYPED.iter().any(|start| line.starts_with(start)) {
+                continue;
+            }
+            let said = typed_in(&here, &line);
             let printed = said.text() + &said.err;
-            assert!(is_shown(&printed.lines().collect::<Vec<_>>(), &strs(shown)), "{page}: {line}\n{printed}");
-            tried += 1;
+            assert!(is_shown(&printed.lines().collect::<Vec<_>>(), &strs(&shown)), "{page}: {line}\n{printed}");
+            tried += usize::from(line.starts_with("./board"));
         }
         assert!(tried >= least, "{page} shows {tried} commands");
     }

@@ -4,7 +4,7 @@
 #[path = "../../second/tests/common/mod.rs"]
 mod common;
 
-use programs::{file, folder, root, run, there, Said};
+use programs::{file, folder, lesson, root, run, there, Said};
 use second::panel;
 use std::path::PathBuf;
 use std::process::Command;
@@ -16,7 +16,7 @@ fn cycle_of_p() -> String {
     let answer = panel::one_cycle(&[common::P], &mut [0; 256], &mut [0; 256], &mut record);
     assert_eq!(answer, 0);
     let names = "I J U V L T D R S G H M N WX_high WX_low AC 1BC Z0 allow_write local arriving arriving_byte \
-                 digit_carry invalid";
+                 digit_carry invalid FWX_high FWX_low owed";
     let lines = names.split(' ').zip(record).map(|(name, byte)| format!("{:<13} {byte:02X}\n", name.replace('_', " ")));
     format!("word {:016X}\nkind 0, refusal 0, field 0\n{}", common::P, lines.collect::<String>())
 }
@@ -88,6 +88,23 @@ fn with_signs() -> String {
     sum("SP", [0x19, 0x0C, 0x20, 0x0C]) + &sum("AP", [0x99, 0x9C, 0x00, 0x1C])
 }
 
+/// What it prints of an addition that a trap breaks into before its ninth cycle, a second trap while the first is open, and the
+/// two cycles of the routine.
+fn broken_into() -> String {
+    let (words, mut main, local, mut record) = (lesson(), [0; 256], &mut [0; 256], [0; panel::STATE]);
+    assert_eq!(panel::start(0x10, 0x20, 1, 1, &mut record), 0);
+    [main[0x10], main[0x20]] = [0x38, 0x47];
+    let wx = |record: &[u8]| u16::from_be_bytes([record[13], record[14]]);
+    assert_eq!(panel::run_for(&words, &mut main, local, &mut record, 8), 8 << 32 | panel::SPENT);
+    let from = wx(&record);
+    let mut text = format!("trap to 015, from {from:03X}: {}\n", panel::trap(0x15, &mut record));
+    text += &format!("a second trap: {}\n", panel::trap(0x16, &mut record));
+    assert_eq!(panel::run_for(&words, &mut main, local, &mut record, 2), 2 << 32 | panel::SPENT);
+    text += &format!("two cycles later at {:03X}, G {:02X}, return owed {}\n", wx(&record), record[9], record[26]);
+    assert_eq!(panel::run_for(&words, &mut main, local, &mut record, 90) & 0xFF, panel::STOPPED);
+    text + &format!("38 + 47 + 1 = {:02X}\n", main[0x10])
+}
+
 fn shows_the_example(said: &Said) {
     let text = [
         cycle_of_p(),
@@ -97,6 +114,7 @@ fn shows_the_example(said: &Said) {
         six_by_hand(0xAD),
         signed_fields(),
         with_signs(),
+        broken_into(),
     ]
     .concat();
     assert_eq!((said.text(), said.status), (text, Some(0)), "{}", said.err);
@@ -183,6 +201,7 @@ int main() {
     std::printf(\"%u \", panel_write_signed(1000000000000000, bytes, 8));
     std::printf(\"%u \", unsigned(panel_add_signed(main, 1, local, 1, 0, 0, 1) / 256));
     std::printf(\"%u \", unsigned(panel_sub_signed(main, 1, all, 256, 0, 0, 0) / 256));
+    std::printf(\"%u \", panel_trap(4096, state, PANEL_STATE));
     std::printf(\"%u \", panel_start(0, 0, 1, 0, state, PANEL_STATE));
     std::printf(\"%u \", panel_shipped(words, 21));
     std::printf(\"%u \", panel_start_signed(0, 0, 1, 0, state, PANEL_STATE));
@@ -194,7 +213,7 @@ int main() {
 fn gpp_links_every_function() {
     let source = file(&folder("gpp_source"), "all.cpp", ALL.as_bytes());
     for said in linked("g++", &source) {
-        let text = "19 19 1 19 1 1 15 21 26 27 1 12 0 21 0 55\n";
+        let text = "19 19 1 19 1 1 15 21 26 27 1 12 30 0 21 0 55\n";
         assert_eq!((said.text().as_str(), said.status), (text, Some(0)), "{}", said.err);
     }
 }

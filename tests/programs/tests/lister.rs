@@ -4,12 +4,14 @@
 mod common;
 
 use programs::{
-    breaking, command, deck_of, failing_reads, file, folder, mend, run_on, said, said_of_a_folder, said_to_full, Said,
+    breaking, command, deck_of, failing_reads, file, folder, lesson, mend, run_on, said, said_of_a_folder,
+    said_to_full, Said,
 };
 use second::deck::{words_of, BLOCK, LONGEST};
 use second::lister::list;
 use second::random::Random;
 use second::shipped::{APSP, SHIPPED};
+use second::word::build;
 
 fn good_deck(words: usize) -> Vec<u8> {
     deck_of(&common::draw_words(&mut Random::new(3 + words as u64), words))
@@ -98,26 +100,39 @@ fn a_read_that_fails_half_way_is_told() {
 #[test]
 fn a_write_that_fails_is_told() {
     told(&said_to_full("lister", &[], &good_deck(1)), "lister: the text was not written\n");
-    for arguments in [&[][..], &["add"], &["apsp"]] {
+    for arguments in [&[][..], &["add"], &["apsp"], &["trap"]] {
         told(&said_to_full("ship", arguments, &[]), "ship: the deck was not written\n");
     }
 }
 
 #[test]
 fn the_shipped_decks_have_the_shipped_words() {
-    for (arguments, words) in [(&[][..], &SHIPPED[..]), (&["add"], &SHIPPED), (&["apsp"], &APSP)] {
+    let lesson = lesson();
+    let decks = [(&[][..], &SHIPPED[..]), (&["add"], &SHIPPED), (&["apsp"], &APSP), (&["trap"], &lesson)];
+    for (arguments, words) in decks {
         let said = said("ship", arguments, &[]);
         assert!(said.well(), "{said:?}");
         assert_eq!(said.out, deck_of(words), "{arguments:?}");
     }
 }
 
+/// Behind the 21 shipped words: G and a carry in go to G, on to 016; and the return word, which lets no bit into its sum.
+#[test]
+fn the_lesson_has_a_routine_of_two_words() {
+    let counts = build(0x15, &[("CN", 5), ("CH", 1), ("CM", 1), ("CA", 10), ("CD", 10), ("CF", 3), ("CC", 1)]);
+    let returns = build(0x16, &[("CM", 1), ("CU", 3), ("CA", 4)]);
+    let words = words_of(&said("ship", &["trap"], &[]).out).expect("a deck");
+    assert_eq!((words.len(), &words[..21]), (23, &SHIPPED[..]));
+    assert_eq!([Ok(words[21]), Ok(words[22])], [counts, returns]);
+}
+
 #[test]
 fn what_ship_does_not_know_is_told() {
-    for name in ["", "ad", "adds", "ap", "sp", "APSP", "apsp ", "apspapsp", "apspapspapsp", "help"] {
-        told(&said("ship", &[name], &[]), "ship: argument 1 is neither add nor apsp\n");
+    let names = ["", "ad", "adds", "ap", "sp", "APSP", "apsp ", "apspapsp", "apspapspapsp", "help"];
+    for name in names.into_iter().chain(["tra", "traps", "TRAP", " trap", "traptrap", "return"]) {
+        told(&said("ship", &[name], &[]), "ship: argument 1 is neither add nor apsp nor trap\n");
     }
-    for arguments in [&["add", "apsp"][..], &["apsp", ""], &["x", "y", "z"]] {
+    for arguments in [&["add", "apsp"][..], &["apsp", ""], &["trap", "add"], &["x", "y", "z"]] {
         told(&said("ship", arguments, &[]), "ship: argument 2 is one too many\n");
     }
 }

@@ -5,13 +5,13 @@
 mod common;
 
 use common::{any_word, chosen_numbers, each_occurs, lent, lent_to_go_on, one_of, Bench, Kind, Lent, LEAST, MOST};
-use programs::{folder, root, run, Said};
+use programs::{folder, lesson, root, run, Said};
 use second::deck::{block_check, write_deck, BLOCK, LONGEST};
 use second::panel::{self, BAD_DIGIT, RAN, REFUSED, SPENT, STATE, STOPPED, SUMMED};
 use second::random::Random;
 use second::shipped::{APSP, BAD_AT, DONE_AT, SHIPPED, SUMMED_AT};
 use second::state::LATCHES;
-use second::word::{build, index_of, pack, Fields, GIVEN, LAYOUT};
+use second::word::{build, index_of, named, pack, with_right_pk, Fields, GIVEN, LAYOUT};
 use std::collections::BTreeSet;
 use std::path::PathBuf;
 use std::process::Command;
@@ -99,6 +99,7 @@ enum Call {
     Shipped { program: Program, words: Vec<u64> },
     ReadSigned { field: Vec<u8>, room: Vec<i64> },
     WriteSigned { number: i64, field: Vec<u8> },
+    Trap { address: u32, state: Vec<u8> },
 }
 
 /// The same bits.
@@ -176,6 +177,7 @@ impl Call {
             Call::Shipped { program: Program::Signed, words } => called(13).words(words),
             Call::ReadSigned { field, room } => called(10).bytes(field).words(&unsigned(room)),
             Call::WriteSigned { number, field } => called(11).number(*number as u64).bytes(field),
+            Call::Trap { address, state } => called(16).number((*address).into()).bytes(state),
         }
         .0
     }
@@ -199,6 +201,7 @@ impl Call {
             Call::Shipped { program, words } => program.shipped(words),
             Call::ReadSigned { field, room } => panel::read_signed(field, room),
             Call::WriteSigned { number, field } => panel::write_signed(*number, field),
+            Call::Trap { address, state } => panel::trap(*address, state),
         }
     }
 
@@ -215,7 +218,7 @@ impl Call {
             Call::ReadDeck { deck, words } => message.elements(deck).wide(words),
             Call::WriteDeck { words, deck } => message.wide(words).elements(deck),
             Call::NextSum { store, state, work } => message.wide(store).elements(state).elements(work),
-            Call::Start { state, .. } => message.elements(state),
+            Call::Start { state, .. } | Call::Trap { state, .. } => message.elements(state),
             Call::Shipped { words, .. } => message.wide(words),
             Call::ReadSigned { field, room } => message.elements(field).wide(&unsigned(room)),
             Call::WriteSigned { field, .. } => message.elements(field),
@@ -227,7 +230,7 @@ impl Call {
     fn changes_nothing(&self, answer: u64) -> bool {
         match self {
             Call::TakeApart { .. } | Call::Pack { .. } | Call::NextSum { .. } | Call::Start { .. } => answer != 0,
-            Call::ReadSigned { .. } | Call::WriteSigned { .. } => answer != 0,
+            Call::ReadSigned { .. } | Call::WriteSigned { .. } | Call::Trap { .. } => answer != 0,
             Call::Cycle { .. } => answer & 0xFF != 0,
             Call::Run { .. } => answer >> 32 == 0,
             Call::Sum { .. } => answer & 0xFF != SUMMED,
@@ -393,12 +396,13 @@ fn runs() {
 /// The record that a call is lent.
 fn record_lent(call: &Call) -> &[u8] {
     match call {
-        Call::Cycle { state, .. } | Call::Run { state, .. } | Call::Start { state, .. } => state,
+        Call::Cycle { state, .. } | Call::Run { state, .. } => state,
+        Call::Start { state, .. } | Call::Trap { state, .. } => state,
         other => panic!("no state is lent to {other:?}"),
     }
 }
 
-/// A cycle, a run and a start write the record, and leave what is lent past it.
+/// A cycle, a run, a trap and a start write the record, and leave what is lent past it.
 #[test]
 fn bytes_past_the_record_are_left() {
     for past in [1, 2, 40] {
@@ -408,7 +412,8 @@ fn bytes_past_the_record_are_left() {
             let state = case.state.clone();
             Call::Start { program, first: 1, second: 2, length: 3, on: 1, state }
         });
-        for (_, call) in made(&[&[cycle_of(&case), run_of(&case, 9)], &starts[..]].concat()) {
+        let trap = Call::Trap { address: 1, state: case.state.clone() };
+        for (_, call) in made(&[&[cycle_of(&case), run_of(&case, 9), trap], &starts[..]].concat()) {
             let (written, left) = record_lent(&call).split_at(STATE);
             assert_ne!(written, &case.state[..STATE], "{call:?}");
             assert_eq!(left, vec![0xEE; past], "{call:?}");
@@ -1279,4 +1284,299 @@ fn signed_fields_are_written() {
     for (case, again) in written.iter().zip(again) {
         assert_eq!(again.number(), Some(case.number));
     }
+}
+
+/// A record for a trap in so much room, with this WX and this latch of a return that is owed. Every other byte has a value of
+/// its own, and no other latch one that a cycle writes.
+fn to_trap(room: usize, wx: u16, owed: u8) -> Vec<u8> {
+    let mut state: Vec<u8> = (0..room).map(|place| 0x40 + place as u8).collect();
+    if let Some(record) = state.first_chunk_mut::<STATE>() {
+        record[13..15].copy_from_slice(&wx.to_be_bytes());
+        record[26] = owed;
+    }
+    state
+}
+
+/// WX, the latch, the address, and the answer.
+const TRAPS: [(u16, u8, u32, u64); 20] = [
+    (0x000E, 0, 0x0A0, 0),
+    (0x0000, 0, 0, 0),
+    (0x0FFF, 0, 4095, 0),
+    (0x00FF, 0, 0x100, 0),
+    (0x03A5, 0, 0xC5A, 0),
+    // All that WX holds is saved, though no store has such a word.
+    (0x1234, 0, 0x234, 0),
+    (0xFFFF, 0, 0, 0),
+    (0x000E, 1, 0x0A0, 29),
+    (0x0000, 7, 0, 29),
+    (0xFFFF, 255, 4095, 29),
+    // 29 comes before 30.
+    (0x000E, 1, 4096, 29),
+    (0x000E, 128, 65_536, 29),
+    (0x000E, 255, u32::MAX, 29),
+    (0x000E, 0, 4096, 30),
+    (0x000E, 0, 4097, 30),
+    (0x000E, 0, 65_535, 30),
+    // The last sixteen bits of these would be an address.
+    (0x000E, 0, 65_536, 30),
+    (0x000E, 0, 0x0001_00A0, 30),
+    (0x000E, 0, 0x8000_00A0, 30),
+    (0x000E, 0, u32::MAX, 30),
+];
+
+/// A trap that is taken writes five bytes, and one that is refused none: both records worked by hand.
+#[test]
+fn traps_by_hand() {
+    for room in [STATE, STATE + 1, 40] {
+        let calls = TRAPS.map(|(wx, owed, address, _)| Call::Trap { address, state: to_trap(room, wx, owed) });
+        for ((wx, owed, address, answer), (got, after)) in TRAPS.into_iter().zip(made(&calls)) {
+            let mut expected = to_trap(room, wx, owed);
+            if answer == 0 {
+                expected[13..15].copy_from_slice(&(address as u16).to_be_bytes());
+                expected[24..26].copy_from_slice(&wx.to_be_bytes());
+                expected[26] = 1;
+            }
+            assert_eq!((got, record_lent(&after)), (answer, &expected[..]), "to {address:X} from {wx:X}, {owed}");
+        }
+    }
+}
+
+/// 19 comes before the others. Behind a record that is too short stands the driver's guard: as a latch it would be on.
+#[test]
+fn a_trap_wants_the_whole_record() {
+    let mut calls = Vec::new();
+    for address in [0, 0x0A0, 4095, 4096, 65_536, u32::MAX] {
+        calls.extend((0..STATE).map(|room| Call::Trap { address, state: to_trap(room, 0, 0) }));
+    }
+    assert_eq!(agree(&calls), vec![19; 6 * 27]);
+}
+
+/// A trap that was asked for: what was answered, and the record as it was lent.
+struct Asked {
+    address: u32,
+    answer: u64,
+    lent: Vec<u8>,
+}
+
+/// Any bytes with latches of every kind, and an address that is good, just over, good in its last bits alone, or any.
+fn draw_trap(random: &mut Random) -> Call {
+    let room = one_of(random, &ROOMS);
+    let mut state = bytes(random, room);
+    for latch in LATCHES {
+        if let Some(byte) = state.get_mut(latch) {
+            *byte = one_of(random, &[0, 0, 0, 1, 7, 255]);
+        }
+    }
+    let any = random.next() as u32;
+    let good = any % 4096;
+    let address = one_of(random, &[good, good, good, 4095, 4096, 4096 + good, any & 0xFFFF_0FFF, 1 << (any % 32), any]);
+    Call::Trap { address, state }
+}
+
+const ASKED: [Kind<Asked>; 13] = [
+    ("taken", |case| case.answer == 0),
+    ("taken to the last address", |case| case.answer == 0 && case.address == 4095),
+    ("taken from an address in no store", |case| case.answer == 0 && case.lent[13] > 15),
+    ("taken, and another latch is odd", |case| case.answer == 0 && LATCHES.iter().any(|latch| case.lent[*latch] > 1)),
+    ("taken, with bytes past the record", |case| case.answer == 0 && case.lent.len() > STATE),
+    ("owed", |case| case.answer == 29 && case.address < 4096),
+    ("owed by an odd latch", |case| case.answer == 29 && case.lent[26] > 1),
+    ("owed, and the address is over", |case| case.answer == 29 && case.address > 4095),
+    ("one over", |case| case.answer == 30 && case.address == 4096),
+    ("over in sixteen bits", |case| case.answer == 30 && case.address < 65_536),
+    ("over by high bits alone", |case| case.answer == 30 && case.address & 0xFFFF < 4096),
+    ("too short", |case| case.answer == 19 && case.address < 4096),
+    ("too short, and the address is over", |case| case.answer == 19 && case.address > 4095),
+];
+
+#[test]
+fn traps() {
+    let random = &mut Random::new(163);
+    let calls: Vec<Call> = (0..12_000).map(|_| draw_trap(random)).collect();
+    let asked = |(call, answer): (Call, u64)| {
+        let Call::Trap { address, state: lent } = call else { unreachable!() };
+        Asked { address, answer, lent }
+    };
+    let answers = agree(&calls);
+    assert_eq!(refusals(&answers, 0), BTreeSet::from([19, 29, 30]));
+    each_occurs(&ASKED, &calls.into_iter().zip(answers).map(asked).collect::<Vec<_>>());
+}
+
+/// Where the routine of the lesson begins.
+const ROUTINE: u32 = 0x15;
+
+/// The lesson's words that test whether the last sum was zero. That of a return word stands there after a trap.
+const TESTS_ZERO: [u16; 2] = [0x009, 0x013];
+
+/// G + 1 goes to G, on to the next word, which returns.
+const COUNTS: common::Codes = &[("CN", 5), ("CH", 1), ("CM", 1), ("CA", 10), ("CD", 10), ("CF", 3), ("CC", 1)];
+const RETURNS: common::Codes = &[("CM", 1), ("CU", 3), ("CA", 4)];
+
+/// An addition of good digits by the lesson's words, of which the panel gives, packs and starts every part.
+fn begun(random: &mut Random, length: u8) -> Lent {
+    let packed = |codes, address| Call::Pack { fields: named(codes).to_vec(), address, word: vec![0] };
+    let (first, second, on) = (random.below(16) as u16, 32 + random.below(16) as u16, one_of(random, &CARRIES));
+    let calls = [
+        Call::Shipped { program: Program::Add, words: vec![0; 21] },
+        packed(COUNTS, ROUTINE),
+        packed(RETURNS, ROUTINE + 1),
+        Call::Start { program: Program::Add, first, second, length, on, state: vec![0xEE; STATE] },
+    ];
+    let (answers, left): (Vec<u64>, Vec<Call>) = made(&calls).into_iter().unzip();
+    let [Call::Shipped { words, .. }, Call::Pack { word: counts, .. }, Call::Pack { word: returns, .. }, start] =
+        &left[..]
+    else {
+        unreachable!()
+    };
+    let store = [&words[..], counts, returns].concat();
+    assert_eq!((answers, &store), (vec![21, 0, 0, 0], &lesson()));
+    let main = (0..64).map(|_| (random.below(10) * 16 + random.below(10)) as u8).collect();
+    Lent { store, main, local: bytes(random, 256), state: record_lent(start).to_vec() }
+}
+
+fn wx_of(state: &[u8]) -> u16 {
+    u16::from_be_bytes([state[13], state[14]])
+}
+
+/// A call for each cycle of a run to its end, and for a trap before one of them. Each is lent what the call before it left, so
+/// that the run is compared step by step.
+fn steps(begun: &Lent, trapped: Option<usize>) -> Vec<Call> {
+    let (mut now, mut calls) = (begun.clone(), Vec::new());
+    for cycle in 1.. {
+        if trapped == Some(cycle) {
+            calls.push(Call::Trap { address: ROUTINE, state: now.state.clone() });
+            assert_eq!(panel::trap(ROUTINE, &mut now.state), 0);
+        }
+        let mut call = cycle_of(&now);
+        calls.push(call.clone());
+        if call.make() != RAN {
+            break;
+        }
+        now = lent_to(call);
+    }
+    calls
+}
+
+/// What the last of these steps answers and leaves. The others ran, or were taken, which is 0 too.
+fn ended(calls: &[Call]) -> (u64, Lent) {
+    let mut steps = made(calls);
+    let (answer, last) = steps.pop().expect("a step");
+    assert!(steps.iter().all(|(answer, _)| *answer == RAN));
+    (answer, lent_to(last))
+}
+
+/// The word broken into is in FWX, nothing is owed, and G has counted: so much is so however the run ends.
+fn is_resumed(left: &Lent, from: u16) {
+    let [fwx_high, fwx_low] = from.to_be_bytes();
+    assert_eq!((left.state[9], &left.state[24..]), (1, &[fwx_high, fwx_low, 0][..]));
+}
+
+/// Both storages, and the registers but for G.
+fn summed(case: &Lent) -> [&[u8]; 4] {
+    [&case.main, &case.local, &case.state[..9], &case.state[10..15]]
+}
+
+/// Before each cycle of short additions and before drawn ones of longer, the one that stops among them. The sum is the same
+/// wherever the word broken into does not test the last one for zero; where it does, not always.
+#[test]
+fn a_run_broken_into_has_the_same_sum() {
+    let random = &mut Random::new(167);
+    let mut others = 0;
+    for length in 1..=16 {
+        let begun = begun(random, length);
+        let plain = steps(&begun, None);
+        let (answer, whole) = ended(&plain);
+        assert_eq!((answer, whole.state[9]), (STOPPED, 0));
+        for cycle in (1..=plain.len()).filter(|_| length < 4 || random.below(16) == 0) {
+            let from = wx_of(record_lent(&plain[cycle - 1]));
+            let (answer, left) = ended(&steps(&begun, Some(cycle)));
+            is_resumed(&left, from);
+            let same = answer == STOPPED && summed(&left) == summed(&whole);
+            assert!(same || TESTS_ZERO.contains(&from), "before cycle {cycle} of {length} bytes, from {from:03X}");
+            others += usize::from(!same);
+        }
+    }
+    assert!(others > 5, "{others} runs end otherwise");
+}
+
+/// A cycle of a return word with these CM, CH and CL, from any record with this latch.
+fn draw_return(random: &mut Random, [cm, ch, cl]: [u8; 3], owed: u8) -> Call {
+    let mut fields = common::draw_modelled(random);
+    for (name, code) in [("CM", cm), ("CH", ch), ("CL", cl), ("CU", 0)] {
+        fields[index_of(name)] = code;
+    }
+    let at = random.below(64) as u16;
+    let mut store = vec![0; usize::from(at) + 1];
+    // Both bits of CU are turned, so that PS is still right.
+    store[usize::from(at)] = pack(&with_right_pk(fields), at.into()).expect("a word") ^ 3 << 34;
+    let mut state = bytes(random, STATE);
+    state[11] = one_of(random, &[0, 0, 1, 3, 255]);
+    state[13..15].copy_from_slice(&at.to_be_bytes());
+    for latch in LATCHES {
+        state[latch] = one_of(random, &[0, 0, 1, 7, 255]);
+    }
+    state[26] = owed;
+    Call::Cycle { store, main: bytes(random, 1024), local: bytes(random, 256), state }
+}
+
+/// Every CM, CH and CL of a return word, with the latch off as often as on.
+fn return_codes() -> impl Iterator<Item = ([u8; 3], u8)> {
+    let codes = (0..3).flat_map(|cm| (0..16).flat_map(move |ch| (0..16).map(move |cl| [cm, ch, cl])));
+    codes.flat_map(|codes| [0, 0, 0, 0, 1, 1, 7, 255].map(|owed| (codes, owed)))
+}
+
+/// The codes that are modelled in a return word: CL = 2 is refused by 8, and of CH and CL those that no word may have.
+fn may_return([_, ch, cl]: [u8; 3]) -> bool {
+    ![4, 5].contains(&ch) && ![2, 3, 4, 12, 15].contains(&cl)
+}
+
+/// WX is FWX, over anything CH and CL say; FWX stays, and the latch goes out.
+#[test]
+fn return_words() {
+    let random = &mut Random::new(173);
+    let calls: Vec<Call> = return_codes().map(|(codes, owed)| draw_return(random, codes, owed)).collect();
+    let (mut answers, mut ran) = (Vec::new(), BTreeSet::new());
+    for ((call, (codes, owed)), (answer, after)) in calls.iter().zip(return_codes()).zip(made(&calls)) {
+        assert_eq!(is_refused(answer, 8), codes[2] == 2, "{codes:?}");
+        if answer == RAN {
+            let (fwx, left) = (&record_lent(call)[24..26], record_lent(&after));
+            assert_eq!((&left[13..15], &left[24..26], left[26]), (fwx, fwx, 0), "{codes:?}");
+            ran.insert((codes, owed != 0));
+        }
+        answers.push(answer);
+    }
+    let every = return_codes().filter(|(codes, _)| may_return(*codes)).map(|(codes, owed)| (codes, owed != 0));
+    assert_eq!(ran, every.collect());
+    assert_eq!(refusals(&answers, 8), BTreeSet::from([8, 10, 11]));
+    // 10 no longer names CU, which is 7.
+    assert_eq!(refusals(&answers, 16), BTreeSet::from([4, 5, 8, 9, 12, 15, 20, 21]));
+}
+
+/// A word with CL = 2, its CU and, where it is to be wrong, its PK put in afterwards; PS is right again.
+fn module_word(codes: common::Codes, address: u32, cu: u8, pk_wrong: bool) -> u64 {
+    let word = build(address, &[&[("CL", 2)], codes].concat()).expect("a word");
+    let bits = u64::from(cu) << 34 | u64::from(pk_wrong) << 21;
+    word ^ bits ^ u64::from(bits.count_ones() % 2) << 20
+}
+
+/// CL = 2 beside every CM and CU: 8 for K to W and for a return, whatever PK is; elsewhere 9, or nothing.
+#[test]
+fn a_return_beside_a_module_number_is_refused_by_8() {
+    let (mut calls, mut expected) = (Vec::new(), Vec::new());
+    for case in 0..8 * 4 * 16 * 2_u16 {
+        let [cm, cu, ca] = [case % 8, case / 8 % 4, case / 32 % 16].map(|code| code as u8);
+        let (pk_wrong, address) = (case / 512 == 1, u32::from(case) * 37 % 4096);
+        let word = module_word(&[("CM", cm), ("CA", ca)], address, cu, pk_wrong);
+        calls.push(Call::TakeApart { word, address, fields: vec![0xEE; 18] });
+        let pk = u8::from(ca.count_ones() % 2 == 0) ^ u8::from(pk_wrong);
+        let fields = named(&[("CL", 2), ("CM", cm), ("CU", cu), ("CA", ca), ("PK", pk)]);
+        calls.push(Call::Pack { fields: fields.to_vec(), address, word: vec![0xEEEE] });
+        let answer = match (cm, cu) {
+            (0..=2, 2..) => 8,
+            _ if pk_wrong => 9,
+            _ => 0,
+        };
+        expected.extend([answer; 2]);
+    }
+    assert_eq!(agree(&calls), expected);
 }

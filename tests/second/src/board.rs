@@ -6,10 +6,11 @@ use crate::decimal::{add_decimal, Outcome};
 use crate::run::Ending;
 use crate::shipped::{self, APSP, SHIPPED};
 use crate::state::{State, RECORD};
+use crate::trap::trap;
 use crate::word::LAYOUT;
 use crate::{apsp, Refusal};
 
-/// The refusals in words, by number; nothing gives 0, 23, 24 or 28 to 32.
+/// The refusals in words, by number; nothing gives 0, 23, 24, 28, 31 or 32.
 pub const WORDS: [&str; 34] = [
     "",
     "a size is wrong: of the word store, of main or of local storage",
@@ -19,7 +20,7 @@ pub const WORDS: [&str; 34] = [
     "PA is wrong",
     "PS is wrong",
     "PC is wrong",
-    "CL = 2 and K to W in one word",
+    "CL = 2 and K to W, or a return, in one word",
     "PK is wrong",
     "a code is not modelled",
     "the main address is not in main storage",
@@ -40,8 +41,8 @@ pub const WORDS: [&str; 34] = [
     "the sign digit is below A",
     "the number has more than fifteen digits",
     "",
-    "",
-    "",
+    "a trap is open, and its return is owed",
+    "the trap address is over 4095",
     "",
     "",
     "the signed field is not of 8 bytes",
@@ -78,6 +79,8 @@ fn state_columns(state: &State) -> Vec<Column> {
         byte("AB", state.arriving_byte),
         latch("DC", state.digit_carry),
         latch("INV", state.invalid),
+        Column { heading: "FWX", digits: 4, value: state.fwx },
+        latch("OW", state.owed),
     ]);
     columns
 }
@@ -164,6 +167,9 @@ const ROWS: [(&str, bool); RECORD] = [
     ("BYTE", false),
     ("DIGIT-CY", true),
     ("INVALID", true),
+    ("FW", false),
+    ("FX", false),
+    ("OWED", true),
 ];
 
 /// A row's name, and its lamps from bit 0, the high one, on.
@@ -285,13 +291,45 @@ impl View {
     }
 }
 
-/// A run from a state, with local storage of zeros: all that is printed of it, and how it ended.
+/// A trap asked for in a run: the cycle that it is made before, from 1 on, and its address.
+#[derive(Clone, Copy, Debug, PartialEq, Eq)]
+pub struct Trap {
+    pub before: u64,
+    pub address: u32,
+}
+
+/// A trap and its line, whatever the view. Refused, the run goes on as if none had been asked.
+fn push_trap(text: &mut String, state: &mut State, address: u32) {
+    let from = state.wx;
+    *text += &match trap(state, address) {
+        Ok(()) => format!("TRAP TO {address:03X}, FROM {from:03X}\n"),
+        Err(number) => format!("TRAP REFUSED {number} AT {from:03X}: {}\n", in_words(number)),
+    };
+}
+
+/// A run with no trap in it.
 pub fn run(store: &[u64], main: &[u8], start: State, budget: u64, view: &View) -> (String, Ending) {
+    run_with_traps(store, main, start, budget, &[], view)
+}
+
+/// A run from a state, with local storage of zeros: all that is printed of it, and how it ended. The traps stand in any
+/// order, no two of them before one cycle; one before a cycle that the run does not come to is not made.
+pub fn run_with_traps(
+    store: &[u64],
+    main: &[u8],
+    start: State,
+    budget: u64,
+    traps: &[Trap],
+    view: &View,
+) -> (String, Ending) {
     let (mut main, mut local, mut state) = (main.to_vec(), [0; 256], start);
     let mut text = if view.lamps { String::new() } else { header() };
     view.push_start(&mut text, &state);
     let mut ending = Ending::Spent;
     for number in 1..=budget {
+        if let Some(asked) = traps.iter().find(|asked| asked.before == number) {
+            push_trap(&mut text, &mut state, asked.address);
+        }
         let (at, work) = (state.wx, next_work(store, &state));
         match cycle(store, &mut main, &mut local, &mut state) {
             Answer::Ran => view.push(&mut text, number, at, &state, &work.expect("the work of a cycle that ran")),
@@ -400,9 +438,10 @@ pub fn signed(first: &str, second: &str, subtract: bool, view: &View) -> String 
 mod tests {
     use super::*;
     use crate::state::LATCHES;
+    use crate::word::build;
 
     const HEADER: &str = "  CYCLE  AT  I  J  U  V  L  T  D  R  S  G  H  M  N   WX AC 1BC Z0 AW LS AR AB DC INV  \
-                          A GA  B GB EB CI BEFORE AFTER\n";
+                          FWX OW  A GA  B GB EB CI BEFORE AFTER\n";
 
     /// Every column has a value of its own.
     fn all_different() -> (State, Work) {
@@ -417,7 +456,7 @@ mod tests {
             before: 0xC6,
             after: 0xC7,
         };
-        (State { ac: true, z0: true, local: true, invalid: true, ..State::from_bytes(&bytes) }, work)
+        (State { ac: true, z0: true, local: true, invalid: true, owed: true, ..State::from_bytes(&bytes) }, work)
     }
 
     #[test]
@@ -429,17 +468,20 @@ mod tests {
         assert_eq!(
             line,
             "1000000 FED A0 A1 A2 A3 A4 A5 A6 A7 A8 A9 AA AB AC ADAE  1   0  1  0  1  0 B5  0   1 \
-             C1 C2 C3 C4 C5  1     C6    C7\n"
+             B8B9  1 C1 C2 C3 C4 C5  1     C6    C7\n"
         );
-        assert_eq!((line.len(), HEADER.len()), (116, 116));
+        assert_eq!((line.len(), HEADER.len()), (124, 124));
     }
 
     #[test]
     fn the_start_has_no_address_and_no_work() {
         let mut line = String::new();
         push_start(&mut line, &all_different().0);
-        assert_eq!(line, "      0 --- A0 A1 A2 A3 A4 A5 A6 A7 A8 A9 AA AB AC ADAE  1   0  1  0  1  0 B5  0   1\n");
-        assert_eq!(line.len(), 85);
+        assert_eq!(
+            line,
+            "      0 --- A0 A1 A2 A3 A4 A5 A6 A7 A8 A9 AA AB AC ADAE  1   0  1  0  1  0 B5  0   1 B8B9  1\n"
+        );
+        assert_eq!(line.len(), 93);
     }
 
     /// Of the same state and work, set out by hand.
@@ -451,6 +493,8 @@ CYCLE     12 AT 00F
  *.*.*... *.*.*..* *.*.*.*. *.*.*.** *.*.**.. *.*.**.* *.*.***.        *
       1BC       Z0    ALLOW    LOCAL ARRIVING     BYTE DIGIT-CY  INVALID
         .        *        .        *        . *.**.*.*        .        *
+       FW       FX     OWED
+ *.***... *.***..*        *
         A  GATED-A        B  GATED-B ENTERS-B CARRY-IN   BEFORE    AFTER
  **.....* **....*. **....** **...*.. **...*.*        * **...**. **...***
 
@@ -462,27 +506,32 @@ CYCLE     12 AT 00F
         let mut picture = String::new();
         push_picture(&mut picture, 12, 0x00F, &state, &work);
         assert_eq!(picture, PICTURE);
-        assert_eq!(picture.len(), 605);
+        assert_eq!(picture.len(), 661);
         let mut start = String::new();
         push_start_picture(&mut start, &state);
-        assert_eq!(start.len(), 452);
+        assert_eq!(start.len(), 508);
         let lines: Vec<&str> = PICTURE.lines().collect();
-        assert_eq!(start.lines().collect::<Vec<_>>(), [&["CYCLE      0"], &lines[1..7], &[""]].concat());
+        assert_eq!(start.lines().collect::<Vec<_>>(), [&["CYCLE      0"], &lines[1..9], &[""]].concat());
     }
 
     #[test]
     fn the_walk_has_a_line_for_each_lamp() {
         let text = walk();
-        assert_eq!((text.len(), text.lines().count()), (11_288, 136));
-        assert!(
-            text.starts_with("        I0 80 00 00 00 00 00 00 00 00 00 00 00 00 00 00 00 00 00 00 00 00 00 00 00\n")
-        );
-        assert!(text.contains("\n      1BC  00 00 00 00 00 00 00 00 00 00 00 00 00 00 00 00 01 00 00 00 00 00 00 00\n"));
-        assert!(text.contains("\n     BYTE7 00 00 00 00 00 00 00 00 00 00 00 00 00 00 00 00 00 00 00 00 00 01 00 00\n"));
-        assert!(text.contains("\n DIGIT-CY  00 00 00 00 00 00 00 00 00 00 00 00 00 00 00 00 00 00 00 00 00 00 01 00\n"));
-        assert!(
-            text.ends_with("\n  INVALID  00 00 00 00 00 00 00 00 00 00 00 00 00 00 00 00 00 00 00 00 00 00 00 01\n")
-        );
+        let lines: Vec<&str> = text.lines().collect();
+        assert_eq!((text.len(), lines.len()), (14_076, 153));
+        let first = "        I0 80 00 00 00 00 00 00 00 00 00 00 00 00 00 00 00 00 00 00 00 00 00 00 00 00 00 00";
+        let last = "     OWED  00 00 00 00 00 00 00 00 00 00 00 00 00 00 00 00 00 00 00 00 00 00 00 00 00 00 01";
+        assert_eq!((lines[0], lines[152]), (first, last));
+        for line in [
+            "      1BC  00 00 00 00 00 00 00 00 00 00 00 00 00 00 00 00 01 00 00 00 00 00 00 00 00 00 00",
+            "     BYTE7 00 00 00 00 00 00 00 00 00 00 00 00 00 00 00 00 00 00 00 00 00 01 00 00 00 00 00",
+            " DIGIT-CY  00 00 00 00 00 00 00 00 00 00 00 00 00 00 00 00 00 00 00 00 00 00 01 00 00 00 00",
+            "  INVALID  00 00 00 00 00 00 00 00 00 00 00 00 00 00 00 00 00 00 00 00 00 00 00 01 00 00 00",
+            "       FW0 00 00 00 00 00 00 00 00 00 00 00 00 00 00 00 00 00 00 00 00 00 00 00 00 80 00 00",
+            "       FX7 00 00 00 00 00 00 00 00 00 00 00 00 00 00 00 00 00 00 00 00 00 00 00 00 00 01 00",
+        ] {
+            assert!(lines.contains(&line), "{line}");
+        }
     }
 
     #[test]
@@ -554,5 +603,110 @@ CYCLE     12 AT 00F
             [&lines[..1], &lines[4..6], &lines[lines.len() - 2..]].concat()
         );
         assert_eq!(of(99, 99).lines().count(), 3);
+    }
+
+    /// Three words that add nothing and go round, a return at 0A0, a stop at 0A1, and no word at 0A2.
+    fn trapped() -> Vec<u64> {
+        let mut store = vec![0; 0xA2];
+        let mut put = |at: usize, codes: &[(&str, u8)]| store[at] = build(at as u32, codes).unwrap();
+        put(0, &[("CA", 4), ("CM", 1), ("CL", 1)]);
+        put(1, &[("CA", 4), ("CM", 1), ("CH", 1)]);
+        put(2, &[("CA", 4), ("CM", 1)]);
+        put(0xA0, &[("CA", 4), ("CM", 1), ("CU", 3), ("CN", 63)]);
+        put(0xA1, &[("CF", 4)]);
+        store
+    }
+
+    /// A line of `TRAP` and one of an ending as they are, and of the others the cycle's number and address.
+    fn outline(traps: &[Trap], budget: u64, view: &View) -> Vec<String> {
+        let (text, _) = run_with_traps(&trapped(), &[0], State::default(), budget, traps, view);
+        let said = ["TRAP", "STOPPED", "SPENT", "REFUSED"];
+        let short = |line: &str| {
+            let whole = said.iter().any(|word| line.starts_with(word));
+            if whole { line } else { line[..11].trim_start() }.to_owned()
+        };
+        text.lines().skip(1).map(short).collect()
+    }
+
+    fn traps<const COUNT: usize>(asked: [(u64, u32); COUNT]) -> [Trap; COUNT] {
+        asked.map(|(before, address)| Trap { before, address })
+    }
+
+    #[test]
+    fn a_trap_is_a_line_before_its_cycle() {
+        let view = &View { from: 1, ..View::LINES };
+        assert_eq!(
+            outline(&traps([(3, 0xA0)]), 5, view),
+            ["1 000", "2 001", "TRAP TO 0A0, FROM 002", "3 0A0", "4 002", "5 000", "SPENT AT 001"]
+        );
+        // They stand in any order. The first cycle closes the first trap, so the second is taken.
+        assert_eq!(
+            outline(&traps([(2, 1), (1, 0xA0)]), 2, view),
+            ["TRAP TO 0A0, FROM 000", "1 0A0", "TRAP TO 001, FROM 000", "2 001", "SPENT AT 002"]
+        );
+        assert_eq!(
+            outline(&traps([(1, 1), (2, 4096)]), 2, view),
+            [
+                "TRAP TO 001, FROM 000",
+                "1 001",
+                "TRAP REFUSED 29 AT 002: a trap is open, and its return is owed",
+                "2 002",
+                "SPENT AT 000"
+            ]
+        );
+        assert_eq!(
+            outline(&traps([(2, 4096)]), 2, view),
+            ["1 000", "TRAP REFUSED 30 AT 001: the trap address is over 4095", "2 001", "SPENT AT 002"]
+        );
+    }
+
+    #[test]
+    fn a_trap_comes_before_a_stop_and_a_refusal_and_not_after_the_end() {
+        let view = &View { from: 1, ..View::LINES };
+        let of = |asked: &[Trap], budget| outline(asked, budget, view);
+        assert_eq!(of(&traps([(1, 0xA1)]), 9), ["TRAP TO 0A1, FROM 000", "STOPPED AT 0A1"]);
+        let lines = of(&traps([(1, 0xA2), (2, 0)]), 9);
+        assert_eq!(lines, ["TRAP TO 0A2, FROM 000", "REFUSED 2 AT 0A2: WX is not in the word store"]);
+        // The budget is spent, or the run has stopped, before that cycle.
+        assert_eq!(of(&traps([(1, 0)]), 0), ["SPENT AT 000"]);
+        assert_eq!(of(&traps([(3, 0)]), 2), ["1 000", "2 001", "SPENT AT 002"]);
+        assert_eq!(of(&traps([(1, 0xA1), (2, 0)]), 9).len(), 2);
+        // From a stop, and from where there is no word.
+        for at in [0xA1, 0xA2] {
+            let start = State { wx: at, ..State::default() };
+            let (text, ending) = run_with_traps(&trapped(), &[0], start, 1, &traps([(1, 0)]), view);
+            let lines: Vec<&str> = text.lines().skip(1).collect();
+            assert_eq!((lines[0], lines[2]), (&*format!("TRAP TO 000, FROM {at:03X}"), "SPENT AT 001"));
+            assert_eq!(ending, Ending::Spent);
+        }
+    }
+
+    #[test]
+    fn a_trap_has_its_line_in_every_view() {
+        let asked = traps([(2, 0xA0), (4, 0xFFF)]);
+        let told = ["TRAP TO 0A0, FROM 001", "TRAP TO FFF, FROM 002"];
+        for lamps in [false, true] {
+            for (from, to) in [(0, u64::MAX), (0, 0), (3, 3), (99, 99)] {
+                let view = View { lamps, from, to };
+                let (text, _) = run_with_traps(&trapped(), &[0], State::default(), 4, &asked, &view);
+                let lines: Vec<&str> = text.lines().filter(|line| line.starts_with("TRAP")).collect();
+                assert_eq!(lines, told);
+                let rest: String = text.split_inclusive('\n').filter(|line| !line.starts_with("TRAP")).collect();
+                assert_eq!(rest.lines().last(), Some("REFUSED 2 AT FFF: WX is not in the word store"));
+            }
+        }
+    }
+
+    #[test]
+    fn without_traps_it_is_the_run() {
+        for view in [View::LINES, View::LAMPS] {
+            let of = |asked: &[Trap]| run_with_traps(&trapped(), &[0], State::default(), 7, asked, &view);
+            assert_eq!(of(&[]), run(&trapped(), &[0], State::default(), 7, &view));
+            // One that is refused leaves a line, and nothing else.
+            let (text, ending) = of(&traps([(5, 4096)]));
+            let rest: String = text.split_inclusive('\n').filter(|line| !line.starts_with("TRAP")).collect();
+            assert_eq!((rest, ending), of(&[]));
+            assert_ne!(text, of(&[]).0);
+        }
     }
 }

@@ -3,7 +3,7 @@
 
 use crate::bits::{bit, both_decimal};
 use crate::state::{State, G, R, S, V};
-use crate::word::{ca_to_w, k_to_w, Word, CA, CH, CK, CL, CN};
+use crate::word::{ca_to_w, k_to_w, returns, Word, CA, CH, CK, CL, CN};
 
 pub type Condition = fn(&State) -> bool;
 
@@ -62,8 +62,11 @@ fn module(word: &Word, now: &State) -> u16 {
     }
 }
 
-/// The next WX of a word whose codes are modelled.
+/// The next WX of a word whose codes are modelled. A return has it from FWX, "over anything CN, CH and CL say".
 pub fn next_address(word: &Word, now: &State) -> u16 {
+    if returns(word) {
+        return now.fwx;
+    }
     let x = u16::from(word[CN]) * 4 + holds(&X6, word[CH], now) * 2 + holds(&X7, word[CL], now);
     module(word, now) * 256 + x
 }
@@ -163,6 +166,22 @@ mod tests {
         assert_eq!(next_of(&[(CN, 1), (CL, 2), (CA, 15)], &now), 0xF05);
         for cm in 0..3 {
             assert_eq!(next_of(&[(CN, 1), (CM, cm), (CU, 2), (CK, 5)], &now), 0x504);
+        }
+    }
+
+    #[test]
+    fn a_return_has_fwx_whatever_the_word_says() {
+        let mut random = Random::new(10);
+        for _ in 0..300 {
+            let now = drawn(&mut random);
+            let codes = [(CN, 63), (CH, 15), (CL, 15), (CA, 15), (CK, 15)];
+            let codes = codes.map(|(place, most)| (place, random.below(most + 1) as u8));
+            for cm in 0..6 {
+                let next = next_of(&[&codes[..], &[(CM, cm), (CU, 3)]].concat(), &now);
+                // With a higher CM it is a read, and CU says from where.
+                let read = next_of(&[&codes[..], &[(CM, cm), (CU, 1)]].concat(), &now);
+                assert_eq!(next, if cm <= 2 { now.fwx } else { read }, "CM {cm}");
+            }
         }
     }
 

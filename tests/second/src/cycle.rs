@@ -8,7 +8,7 @@ use crate::state::{State, R, S};
 use crate::status::STATUS;
 use crate::storage::{cu_modelled, Storage, ACTION, STORE};
 use crate::word::{
-    ca_to_w, fault, split, Word, AA, AK, AS, CA, CC, CD, CF, CG, CH, CL, CM, CS, CU, CV, HIGHEST_ADDRESS,
+    ca_to_w, fault, returns, split, Word, AA, AK, AS, CA, CC, CD, CF, CG, CH, CL, CM, CS, CU, CV, HIGHEST_ADDRESS,
 };
 use crate::Refusal;
 
@@ -137,6 +137,8 @@ fn steps(correct: Correction, word: &Word, storage: &mut Storage, state: &State)
         next.registers[S] = with_bit(next.registers[S], 3, sum.ac);
     }
     next.wx = next_address(word, &now);
+    // "The return word closes the trap."
+    next.owed &= !returns(word);
     Ok(next)
 }
 

@@ -1,6 +1,6 @@
 //! A second Model 30 engine, written from document 01 alone, for the proved one to be compared with; `signed` is written
-//! from request 2 of document 02 alone, `apsp` from request 3 and the paper of its words, and the two lamps of a sum from
-//! request 5.
+//! from request 2 of document 02 alone, `apsp` from request 3 and the paper of its words, the two lamps of a sum from
+//! request 5, and `trap` with the return from request 10.
 //!
 //! One file for each section of the paper. Behaviour sits in tables of functions indexed by a field's
 //! code; a code with no entry is a code that is not modelled, so refusal 10 reads the same tables.
@@ -24,6 +24,7 @@ pub mod signed;
 pub mod state;
 pub mod status;
 pub mod storage;
+pub mod trap;
 pub mod word;
 
 /// The number of a refusal, as documents 01 and 02 give it.

@@ -7,7 +7,7 @@ use crate::run::{run, Ending};
 use crate::shipped::{self, run_shipped, APSP, SHIPPED};
 use crate::state::State;
 use crate::word::{self, Fields};
-use crate::{apsp, deck, signed, Refusal};
+use crate::{apsp, deck, signed, trap, Refusal};
 
 /// PANEL_STATE: the bytes of a record.
 pub use crate::state::RECORD as STATE;
@@ -94,6 +94,20 @@ pub fn run_for(store: &[u64], main: &mut [u8], local: &mut [u8], record: &mut [u
         Ending::Spent => coded(SPENT, 0, 0),
     };
     code + ran(count)
+}
+
+/// "a cycle that ran writes 0 or 1", and a trap is none: it writes WX, FWX and its own latch, and no other byte.
+pub fn trap(address: u32, record: &mut [u8]) -> u64 {
+    let Some(mut state) = loaded(record) else {
+        return 19;
+    };
+    let answer = trap::trap(&mut state, address);
+    if answer.is_ok() {
+        let after = state.to_bytes();
+        record[13..15].copy_from_slice(&after[13..15]);
+        record[24..27].copy_from_slice(&after[24..27]);
+    }
+    numbered(answer)
 }
 
 /// enum panel_work.

@@ -16,10 +16,10 @@ pub const M: usize = 11;
 pub const N: usize = 12;
 
 /// The bytes of the panel's record, one for each channel.
-pub const RECORD: usize = 24;
+pub const RECORD: usize = 27;
 
-/// The channels that are latches: AC, 1BC, Z0, allow-write, local, arriving, digit carry, invalid.
-pub const LATCHES: [usize; 8] = [15, 16, 17, 18, 19, 20, 22, 23];
+/// The channels that are latches: AC, 1BC, Z0, allow-write, local, arriving, digit carry, invalid, owed.
+pub const LATCHES: [usize; 9] = [15, 16, 17, 18, 19, 20, 22, 23, 26];
 
 #[derive(Clone, Copy, Debug, Default, PartialEq, Eq)]
 pub struct State {
@@ -40,16 +40,21 @@ pub struct State {
     /// Of the last sum, for the lamps: no branch reads these two.
     pub digit_carry: bool,
     pub invalid: bool,
+    /// The WX that a trap broke into; 16 bits held, as WX.
+    pub fwx: u16,
+    /// A return is owed: a trap is open.
+    pub owed: bool,
 }
 
 impl State {
     /// The panel's record; a latch is 0 or 1.
     pub fn to_bytes(&self) -> [u8; RECORD] {
-        let State { ac, bc1, z0, allow_write, local, arriving, digit_carry, invalid, .. } = *self;
+        let State { ac, bc1, z0, allow_write, local, arriving, digit_carry, invalid, owed, .. } = *self;
         let mut bytes = [0; RECORD];
         bytes[..13].copy_from_slice(&self.registers);
         bytes[13..15].copy_from_slice(&self.wx.to_be_bytes());
-        let latches = [ac, bc1, z0, allow_write, local, arriving, digit_carry, invalid];
+        bytes[24..26].copy_from_slice(&self.fwx.to_be_bytes());
+        let latches = [ac, bc1, z0, allow_write, local, arriving, digit_carry, invalid, owed];
         for (channel, latch) in LATCHES.into_iter().zip(latches) {
             bytes[channel] = u8::from(latch);
         }
@@ -63,9 +68,24 @@ impl State {
         registers.copy_from_slice(&bytes[..13]);
         let wx = u16::from_be_bytes([bytes[13], bytes[14]]);
         let arriving_byte = bytes[21];
-        let [ac, bc1, z0, allow_write, local, arriving, digit_carry, invalid] =
+        let fwx = u16::from_be_bytes([bytes[24], bytes[25]]);
+        let [ac, bc1, z0, allow_write, local, arriving, digit_carry, invalid, owed] =
             LATCHES.map(|channel| bytes[channel] != 0);
-        State { registers, wx, ac, bc1, z0, allow_write, local, arriving, arriving_byte, digit_carry, invalid }
+        State {
+            registers,
+            wx,
+            ac,
+            bc1,
+            z0,
+            allow_write,
+            local,
+            arriving,
+            arriving_byte,
+            digit_carry,
+            invalid,
+            fwx,
+            owed,
+        }
     }
 }
 
@@ -83,7 +103,10 @@ mod tests {
         let mut bytes = [0; RECORD];
         bytes[13] = 0x0A;
         bytes[14] = 0xBC;
-        assert_eq!(State::from_bytes(&bytes).wx, 0x0ABC);
+        bytes[24] = 0xFD;
+        bytes[25] = 0xEC;
+        let State { wx, fwx, .. } = State::from_bytes(&bytes);
+        assert_eq!((wx, fwx), (0x0ABC, 0xFDEC));
     }
 
     #[test]
@@ -92,15 +115,16 @@ mod tests {
         let mut expected = [7; RECORD];
         expected[15..21].fill(1);
         expected[22..24].fill(1);
+        expected[26] = 1;
         assert_eq!(State::from_bytes(&bytes).to_bytes(), expected);
     }
 
     #[test]
     fn channels_by_name() {
-        let state = State { z0: true, local: true, invalid: true, ..State::default() };
+        let state = State { z0: true, local: true, invalid: true, owed: true, ..State::default() };
         let bytes = state.to_bytes();
         let lit: Vec<usize> = (0..RECORD).filter(|&channel| bytes[channel] == 1).collect();
-        assert_eq!(lit, [17, 19, 23]);
+        assert_eq!(lit, [17, 19, 23, 26]);
         assert_eq!([I, J, U, V, L, T, D, R, S, G, H, M, N], std::array::from_fn(|place| place));
     }
 }

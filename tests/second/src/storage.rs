@@ -35,10 +35,10 @@ pub static ACTION: [Option<Action>; 8] = [
 static LOCAL: [Option<Condition>; 4] =
     [Some(|_| false), Some(|_| true), None, Some(|now| !bit(now.registers[G], 0) && !bit(now.registers[G], 1))];
 
-/// Whether CU has a meaning beside this CM. With CM 0 to 2 it is 0, nothing more, or 2, K to W.
+/// Whether CU has a meaning beside this CM. With CM 0 to 2 it is 0, nothing more, 2, K to W, or 3, a return.
 pub fn cu_modelled(word: &Word) -> bool {
     if word[CM] <= STORE {
-        matches!(word[CU], 0 | 2)
+        matches!(word[CU], 0 | 2 | 3)
     } else {
         LOCAL[usize::from(word[CU])].is_some()
     }

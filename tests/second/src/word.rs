@@ -104,6 +104,16 @@ pub fn ca_to_w(word: &Word) -> bool {
     word[CL] == 2
 }
 
+/// Whether the word is a return: FWX is the next WX.
+pub fn returns(word: &Word) -> bool {
+    word[CM] <= 2 && word[CU] == 3
+}
+
+/// Refusal 8: CA goes to W, and K goes there too or a return gives all of WX.
+fn given_twice(word: &Word) -> bool {
+    ca_to_w(word) && (k_to_w(word) || returns(word))
+}
+
 /// What PK covers, or nothing where it is free.
 fn under_pk(word: &Word) -> &'static [usize] {
     if ca_to_w(word) {
@@ -130,7 +140,7 @@ pub fn fault(bits: u64, address: u32) -> Refusal {
         (5, wrong(PA, (address & HIGHEST_ADDRESS).count_ones())),
         (6, wrong(PS, ones(&word, &UNDER_PS))),
         (7, wrong(PC, ones(&word, &UNDER_PC))),
-        (8, ca_to_w(&word) && k_to_w(&word)),
+        (8, given_twice(&word)),
         (9, pk_wrong(&word)),
     ];
     checks.iter().find(|(_, given)| *given).map_or(0, |(number, _)| *number)
@@ -157,7 +167,7 @@ pub fn pack(fields: &Fields, address: u32) -> Result<u64, Refusal> {
     for (&place, &code) in GIVEN.iter().zip(fields) {
         word[place] = code;
     }
-    if ca_to_w(&word) && k_to_w(&word) {
+    if given_twice(&word) {
         return Err(8);
     }
     if pk_wrong(&word) {

@@ -7,11 +7,12 @@ use std::fs;
 use std::path::{Path, PathBuf};
 
 /// What promises less than the whole answer; docs/PROMISES.md says why.
-const NOT_WHOLE: [&str; 43] = [
+const NOT_WHOLE: [&str; 50] = [
     "input:read",
     "board:begin",
     "board:end",
     "board:go",
+    "board:broken_run",
     "board:flush",
     "board:ready",
     "board:put",
@@ -21,6 +22,9 @@ const NOT_WHOLE: [&str; 43] = [
     "board:refused",
     "board:refused_number",
     "board:refused_field",
+    "board:missed",
+    "board:asked",
+    "board:next",
     "board:signed",
     "board:enough",
     "board:no_more",
@@ -36,6 +40,8 @@ const NOT_WHOLE: [&str; 43] = [
     "agree:less",
     "agree:seldom_wrong",
     "agree:fill",
+    "agree:fill_store",
+    "agree:drawn_rate",
     "agree:tally",
     "agree:two_digits",
     "agree:put_byte",
@@ -47,6 +53,7 @@ const NOT_WHOLE: [&str; 43] = [
     "agree:modelled",
     "agree:raw",
     "agree:packed",
+    "agree:with_right_pk",
     "agree:word_for",
     "agree:print_digest",
     "agree:print_count",
@@ -54,8 +61,9 @@ const NOT_WHOLE: [&str; 43] = [
 ];
 
 /// What the program `board` promises of all that it shows but the buffer, each by the definition that its contract cites.
-const SHOWN: [(&str, &str); 5] = [
+const SHOWN: [(&str, &str); 6] = [
     ("go", "≡ runOf budget "),
+    ("broken_run", "BrokenInto budget "),
     ("answered", "≡ fromRun done (runOf (bound size) "),
     ("summed", "≡ answerOf operation "),
     ("lay_out", "≡ laidOut size "),

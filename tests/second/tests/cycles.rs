@@ -13,7 +13,7 @@ use second::word::{index_of, pack, split, Fields, CC, CD, CL, CM, CS, CU};
 fn expected_field(fields: &Fields) -> u8 {
     let of = |name: &str| fields[index_of(name)];
     let cu_bad = match of("CM") {
-        0..=2 => [1, 3].contains(&of("CU")),
+        0..=2 => of("CU") == 1,
         3..=5 => of("CU") == 2,
         _ => false,
     };
@@ -47,7 +47,7 @@ fn ten_names_the_first_field_in_word_order() {
         let fields = second::word::with_right_pk(fields);
         let word = match pack(&fields, 0) {
             Ok(word) => word,
-            // Plain CM beside a drawn CL 2 and CU 2: two module numbers.
+            // Plain CM beside a drawn CL 2 and CU 2 or 3: W would be given twice.
             Err(number) => {
                 assert_eq!(number, 8);
                 continue;
@@ -151,8 +151,11 @@ fn check_frame(word: &second::word::Word, before: &Bench, after: &Bench) {
     assert_eq!(after.state.arriving, reads && !before.state.allow_write);
     assert!(after.state.arriving || after.state.arriving_byte == 0);
     assert!(reads || after.state.local == before.state.local);
+    let returns = !reads && word[CU] == 3;
     let module = word[CL] == 2 || !reads && word[CU] == 2;
-    assert!(module || after.state.wx / 256 == before.state.wx / 256);
+    assert!(module || returns || after.state.wx / 256 == before.state.wx / 256);
+    assert!(!returns || after.state.wx == before.state.fwx);
+    assert_eq!((after.state.fwx, after.state.owed), (before.state.fwx, before.state.owed && !returns));
 }
 
 #[test]

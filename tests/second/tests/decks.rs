@@ -196,10 +196,14 @@ fn three_to_nine_by_each_word() {
     deck[8..16].copy_from_slice(&pk_wrong.to_be_bytes());
     mend(&mut deck, 0);
     refuses(&deck, 9);
-    let both = build(0, &[("CL", 2)]).unwrap() ^ 1 << 35 ^ 1 << 20;
-    deck[8..16].copy_from_slice(&both.to_be_bytes());
-    mend(&mut deck, 0);
-    refuses(&deck, 8);
+    // CL 2 beside K to W, and beside a return.
+    for turned in [1 << 35 | 1 << 20, 3 << 34] {
+        let both = build(0, &[("CL", 2)]).unwrap() ^ turned;
+        deck[8..16].copy_from_slice(&both.to_be_bytes());
+        mend(&mut deck, 0);
+        refuses(&deck, 8);
+        assert_eq!(write_deck(&[both], &mut [0; 512]), Err(8));
+    }
 }
 
 #[test]

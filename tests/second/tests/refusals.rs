@@ -115,28 +115,45 @@ fn the_first_of_several_faults_is_given() {
     }
 }
 
-/// A word of CL 2 with K to W, which no packing gives: CU and PS are turned by hand.
-fn both_modules() -> u64 {
-    build(0, &[("CL", 2), ("CA", 3)]).unwrap() ^ 1 << 35 ^ PS_BIT
+/// What makes CU 2, K to W, and 3, a return, of a CU 0 under a PS that stays right.
+const TO_CU_2: u64 = 1 << 35 | PS_BIT;
+const TO_CU_3: u64 = 3 << 34;
+
+/// A word of CL 2 and of another CU, which no packing gives: CU is turned by hand.
+fn module_and(turned: u64) -> u64 {
+    build(0, &[("CL", 2), ("CA", 3)]).unwrap() ^ turned
+}
+
+/// The word is refused by 8 in a cycle too; 7 comes before it, and 9 after.
+fn refused_by_8(word: u64) {
+    assert_eq!(fault(word, 0), 8);
+    // PK wrong for CA besides: still 8, and PS answers for PK.
+    assert_eq!(fault(word ^ PK_BIT ^ PS_BIT, 0), 8);
+    assert_eq!(fault(word ^ PC_BIT, 0), 7);
+    let mut bench = Bench::new(1);
+    bench.store[0] = word;
+    bench.refuses(8);
 }
 
 #[test]
 fn eight_for_two_module_numbers() {
-    assert_eq!(fault(both_modules(), 0), 8);
-    // PK wrong for CA besides: still 8, and PS answers for PK.
-    assert_eq!(fault(both_modules() ^ PK_BIT ^ PS_BIT, 0), 8);
-    assert_eq!(fault(both_modules() ^ PC_BIT, 0), 7);
-    let mut bench = Bench::new(1);
-    bench.store[0] = both_modules();
-    bench.refuses(8);
+    refused_by_8(module_and(TO_CU_2));
+}
+
+#[test]
+fn eight_for_a_module_number_in_a_return() {
+    refused_by_8(module_and(TO_CU_3));
 }
 
 #[test]
 fn eight_for_cm_0_to_2_only() {
     for cm in 0..8u8 {
         let word = build(0, &[("CL", 2), ("CM", cm)]).unwrap();
-        let number = fault(word ^ 1 << 35 ^ PS_BIT, 0);
-        assert_eq!(number, if cm <= 2 { 8 } else { 0 }, "CM {cm}");
+        for turned in [TO_CU_2, TO_CU_3] {
+            assert_eq!(fault(word ^ turned, 0), if cm <= 2 { 8 } else { 0 }, "CM {cm}");
+        }
+        // CU 1 gives W nothing.
+        assert_eq!(fault(word ^ 1 << 34 ^ PS_BIT, 0), 0, "CM {cm}");
     }
 }
 
@@ -184,7 +201,11 @@ fn a_stop_comes_after_9_and_before_10() {
     bench.answers(Answer::Stopped);
     bench.store[0] ^= PK_BIT ^ PS_BIT;
     bench.refuses(9);
-    bench.store[0] = both_modules();
+    bench.store[0] = module_and(TO_CU_2);
+    bench.refuses(8);
+    // A return with a module number that stops: 8 comes before the stop too.
+    bench.put(0, module);
+    bench.store[0] ^= TO_CU_3;
     bench.refuses(8);
 }
 

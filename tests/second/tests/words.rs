@@ -97,12 +97,14 @@ fn twenty_for_an_address_over_4095() {
 
 #[test]
 fn packing_checks_20_then_8_then_9() {
-    let both = named(&[("CL", 2), ("CM", 2), ("CU", 2), ("PK", 0)]);
-    assert_eq!(pack(&both, 0), Err(8));
-    assert_eq!(pack(&both, 4096), Err(20));
-    let mut wide = both;
-    wide[0] = 64;
-    assert_eq!(pack(&wide, 0), Err(20));
+    for cu in [2, 3] {
+        let both = named(&[("CL", 2), ("CM", 2), ("CU", cu), ("PK", 0)]);
+        assert_eq!(pack(&both, 0), Err(8));
+        assert_eq!(pack(&both, 4096), Err(20));
+        let mut wide = both;
+        wide[0] = 64;
+        assert_eq!(pack(&wide, 0), Err(20));
+    }
     for (pk, right) in [(0, false), (1, true)] {
         let ca = named(&[("CL", 2), ("CA", 3), ("CM", 3), ("PK", pk)]);
         assert_eq!(pack(&ca, 0).is_ok(), right);
@@ -112,7 +114,9 @@ fn packing_checks_20_then_8_then_9() {
             assert_eq!((pack(&ca, 0), pack(&ck, 0)), (Err(9), Err(9)));
         }
         // Free elsewhere, and given back as it was.
-        let free = named(&[("CM", 1), ("PK", pk)]);
-        assert_eq!(take_apart(pack(&free, 0).unwrap(), 0), Ok(free));
+        for cu in [0, 1, 3] {
+            let free = named(&[("CM", 1), ("CU", cu), ("CK", 5), ("PK", pk)]);
+            assert_eq!(take_apart(pack(&free, 0).unwrap(), 0), Ok(free));
+        }
     }
 }

@@ -11,7 +11,11 @@ use Rattle.channels.proofs.loaded.Tie as tie
 returns : tie.Need-returns
 unfolding loaded
 returns c =
-    let invalid = c in
+    let owed = c in
+    let fwx = owed .before in
+    let fx = fwx .before in
+    let fw = fx .before in
+    let invalid = fw .before in
     let carry = invalid .before in
     let arrived = carry .before in
     let arriving = arrived .before in
@@ -37,6 +41,7 @@ returns c =
     let j = u .before in
     let i = j .before in
     let both = wx .pair .ensures ∙ ap₂ (λ h l. h * 256 + l) (w .byte-at14 .ensures) (x .byte-at15 .ensures) in
+    let both-held = fwx .pair2 .ensures ∙ ap₂ (λ h l. h * 256 + l) (fw .byte-at25 .ensures) (fx .byte-at26 .ensures) in
     λ k. record {
       i = i .byte-at .ensures k;
       j = j .byte-at2 .ensures k;
@@ -61,12 +66,18 @@ returns c =
       «arriving_byte» = arrived .byte-at22 .ensures k;
       «digit_carry» = not (eqb (carry .byte-at23 .ensures k) 0);
       invalid = not (eqb (invalid .byte-at24 .ensures k) 0);
+      fwx = both-held k;
+      owed = not (eqb (owed .byte-at27 .ensures k) 0);
     }
 
 pub loaded-spec : {M : Type 1} → statement M
 loaded-spec =
     tie.close
     (tie.spec
+    (λ c κs. tt)
+    (λ c κs. tt)
+    (λ c κs. tt)
+    (λ c κs. tt)
     (λ c κs. tt)
     (λ c κs. tt)
     (λ c κs. tt)

@@ -21,11 +21,14 @@ fn pick(codes: &[u8; 16], x: u64, low: u32) -> u8 {
     codes[usize::from(bits(x, low, 4))]
 }
 
-/// A modelled CU beside these two, with which CA and K do not both go to W.
+/// By three bits, for CM 0 to 2: a return is seldom, so that runs go on.
+const CU: [u8; 8] = [0, 0, 0, 0, 2, 2, 2, 3];
+
+/// A modelled CU beside these two; where CA goes to W, neither K nor a return gives W again.
 fn drawn_cu(cl: u8, cm: u8, x: u64) -> u8 {
     match (cm, cl, bits(x, 20, 2)) {
         (0..=2, 2, _) => 0,
-        (0..=2, _, code) => code % 2 * 2,
+        (0..=2, _, _) => CU[usize::from(bits(x, 20, 3))],
         (_, _, 2) => 0,
         (_, _, code) => code,
     }
@@ -105,9 +108,11 @@ pub fn packed(fields: &Fields, address: u32) -> u64 {
     pack(fields, address).unwrap_or_else(u64::from)
 }
 
-/// PS with the high bit of CU, and with PK: what is turned in a word whose parity is to stay right.
+/// PS with the high bit of CU, and with PK: what is turned in a word whose parity is to stay right. Both bits of CU are
+/// turned without it.
 pub const PS_AND_CU: u64 = 1 << 35 | 1 << 20;
 pub const PS_AND_PK: u64 = 1 << 21 | 1 << 20;
+pub const BOTH_OF_CU: u64 = 3 << 34;
 
 /// A word for the address, of a kind that `x` draws: most are modelled and run.
 pub fn word_for(a: u64, b: u64, x: u64, address: u32) -> u64 {
@@ -118,7 +123,7 @@ pub fn word_for(a: u64, b: u64, x: u64, address: u32) -> u64 {
         50..=53 => packed(&raw(a, b), address),
         54..=59 => packed(&modelled(a, b), address) ^ 1 << (rest % 64),
         60 => packed(&modelled(a, b), (rest % 4096) as u32),
-        61 => packed(&to_w(modelled(a, b)), address) ^ PS_AND_CU,
+        61 => packed(&to_w(modelled(a, b)), address) ^ [PS_AND_CU, BOTH_OF_CU][(rest % 2) as usize],
         62 => packed(&modelled(a, b), address) ^ PS_AND_PK,
         _ => a / 512,
     }
@@ -146,6 +151,16 @@ impl Lent {
     }
 }
 
+/// Any 16 bits one time in 16, else an address of a whole store.
+fn drawn_fwx(c: u64, e: u64) -> u16 {
+    let x = (((c / 0x1000) ^ (e / 0x100)) % 0x1_0000) as u16;
+    if bits(e, 49, 4) == 0 {
+        x
+    } else {
+        x % 4096
+    }
+}
+
 pub fn drawn_state(c: u64, e: u64, wx: u16) -> State {
     let mut registers = [0; 13];
     registers[..8].copy_from_slice(&c.to_le_bytes());
@@ -163,6 +178,8 @@ pub fn drawn_state(c: u64, e: u64, wx: u16) -> State {
         arriving_byte: bits(e, 56, 8),
         digit_carry: latch(6),
         invalid: latch(7),
+        fwx: drawn_fwx(c, e),
+        owed: latch(8),
     }
 }
 

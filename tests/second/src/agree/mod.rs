@@ -11,6 +11,7 @@ mod draw;
 mod fields;
 mod run;
 mod signed;
+mod trap;
 mod word;
 
 use crate::random::{mix, Random};
@@ -19,7 +20,7 @@ use crate::state::State;
 /// A program's name, and what computes its text.
 pub type Program = (&'static str, fn() -> String);
 
-pub const PROGRAMS: [Program; 8] = [
+pub const PROGRAMS: [Program; 9] = [
     ("agree_adder", adder::text),
     ("agree_apsp", apsp::text),
     ("agree_cycle", cycle::text),
@@ -27,6 +28,7 @@ pub const PROGRAMS: [Program; 8] = [
     ("agree_deck", deck::text),
     ("agree_run", run::text),
     ("agree_signed", signed::text),
+    ("agree_trap", trap::text),
     ("agree_word", word::text),
 ];
 
@@ -55,12 +57,13 @@ fn joined(bytes: &[u8]) -> u64 {
     bytes.iter().fold(0, |number, byte| number << 8 | u64::from(*byte))
 }
 
-/// The digest after all of a state: its registers eight at a time, with WX, and its latches, the lamps' two first, with the
-/// arriving byte.
+/// The digest after all of a state: its registers eight at a time, with WX; its latches, the lamps' two first, with the
+/// arriving byte; and the latch that a return is owed, with FWX.
 fn mix_state(digest: u64, state: &State) -> u64 {
     let record = state.to_bytes();
     let rest = joined(&record[8..13]) << 24 | joined(&record[13..15]);
     let latches = record[22..24].iter().chain(&record[15..21]).fold(0, |number, latch| number << 1 | u64::from(*latch));
     let last = latches << 8 | u64::from(record[21]);
-    [joined(&record[..8]), rest, last].into_iter().fold(digest, mix)
+    let saved = u64::from(record[26]) << 16 | joined(&record[24..26]);
+    [joined(&record[..8]), rest, last, saved].into_iter().fold(digest, mix)
 }

@@ -18,7 +18,7 @@ struct Trial {
 const MAIN_SIZES: [usize; 8] = [65536, 65536, 65536, 65536, 65536, 1, 256, 257];
 const STORE_SIZES: [usize; 8] = [4096, 4096, 4096, 4096, 1, 256, 257, 4000];
 const BUDGETS: [u64; 16] = [1000, 0, 1, 2, 3, 10, 100, 500, 999, 1000, 1000, 1000, 1000, 1000, 1000, 1_000_001];
-const RATES: [u64; 8] = [0, 0, 1, 1, 1, 2, 8, 32];
+pub const RATES: [u64; 8] = [0, 0, 1, 1, 1, 2, 8, 32];
 
 fn drawn(random: &mut Random) -> Trial {
     let [a, c, e] = std::array::from_fn(|_| random.next());
@@ -36,7 +36,7 @@ fn drawn(random: &mut Random) -> Trial {
     trial
 }
 
-fn store_word(random: &mut Random, rate: u64, address: u32) -> u64 {
+pub fn store_word(random: &mut Random, rate: u64, address: u32) -> u64 {
     let [a, b, x] = std::array::from_fn(|_| random.next());
     let mut fields = modelled(a, b);
     match x % 256 {

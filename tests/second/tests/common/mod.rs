@@ -107,7 +107,7 @@ impl Bench {
     }
 }
 
-/// Fields within their widths, with PK right and never both CA and K to W.
+/// Fields within their widths, with PK right and never CA to W beside K to W or a return.
 pub fn draw_fields(random: &mut Random) -> Fields {
     let mut fields: Fields = GIVEN.map(|place| random.below(1 << LAYOUT[place].1) as u8);
     if fields[index_of("CL")] == 2 && fields[index_of("CM")] <= 2 {
@@ -142,7 +142,7 @@ pub fn draw_modelled(random: &mut Random) -> Fields {
     }
     fields[index_of("CU")] = match (fields[index_of("CM")], fields[index_of("CL")]) {
         (0..=2, 2) => 0,
-        (0..=2, _) => choose(&[0, 2]),
+        (0..=2, _) => choose(&[0, 0, 2, 2, 3]),
         _ => choose(&[0, 1, 3]),
     };
     with_right_pk(fields)
@@ -178,7 +178,7 @@ pub fn any_word(random: &mut Random, address: u32) -> u64 {
     match random.below(8) {
         0 => word ^ 1 << random.below(64),
         1 => pack(&fields, random.below(4096) as u32).expect("fields in their widths"),
-        // CA and K to W, and PK wrong, under a right PS.
+        // CA to W beside K to W or a return, and PK wrong, under a right PS.
         2 => word ^ 1 << 35 ^ 1 << 20,
         3 => word ^ 1 << 21 ^ 1 << 20,
         4 => random.next(),
@@ -202,7 +202,17 @@ pub fn draw_state(random: &mut Random, words: usize) -> State {
     }
     let mut state = State::from_bytes(&bytes);
     state.wx = random.below(words as u64) as u16;
+    state.fwx = draw_address(random, words as u64);
     state
+}
+
+/// An address that is mostly in the store, and else any 16 bits.
+fn draw_address(random: &mut Random, words: u64) -> u16 {
+    if random.below(16) == 0 {
+        random.next() as u16
+    } else {
+        random.below(words.max(1)) as u16
+    }
 }
 
 /// A bench of which every part is drawn: a word at each address, mostly modelled.
@@ -255,12 +265,13 @@ pub fn lent(random: &mut Random, stray: u64) -> Lent {
     Lent { store, main: draw_bytes(random, main), local: draw_bytes(random, local), state }
 }
 
-/// A record in so many bytes: WX mostly in the store, addresses mostly near the ends of a page, latches of any value.
+/// A record in so many bytes: WX and FWX mostly in the store, addresses mostly at the ends of a page, latches of any value.
 fn draw_record(random: &mut Random, room: usize, words: u64) -> Vec<u8> {
     let mut state = draw_bytes(random, room);
     if let Some(record) = state.first_chunk_mut::<RECORD>() {
-        let wx = if random.below(16) == 0 { random.next() as u16 } else { random.below(words.max(1)) as u16 };
-        record[13..15].copy_from_slice(&wx.to_be_bytes());
+        for place in [13, 24] {
+            record[place..place + 2].copy_from_slice(&draw_address(random, words).to_be_bytes());
+        }
         let highs = [0, 2, 4, 11].map(|place| (place, [0, 0, 1, 3, 255]));
         let latches = LATCHES.map(|place| (place, [0, 0, 1, 7, 255]));
         for (place, values) in highs.into_iter().chain(latches) {

@@ -1,12 +1,12 @@
--- By the four forms. Assumes nothing.
+-- By the five forms. Assumes nothing.
 use mathlib.Core.Path.{_≡_, sym, ap, _∙_}
 use mathlib.Core.Bool.{true, false}
 use native.Mathlib.Omega.{arith}
 use borrow.Author.Needs.{needs}
 use lib.ListN.{length}
 use Rattle.text.specs.Ascii.{ascii}
-use Rattle.arguments.specs.Arguments.{byteForm, addressForm, limitForm}
-use Rattle.arguments.proofs.Laws.{short-value, byte-short, address-short, limit-short, gives-byte, gives-address, gives-from, gives-to, gives-none}
+use Rattle.arguments.specs.Arguments.{byteForm, addressForm, limitForm, trapForm}
+use Rattle.arguments.proofs.Laws.{short-value, byte-short, address-short, limit-short, trap-short, gives-byte, gives-address, gives-from, gives-to, gives-trap, gives-none}
 use Rattle.arguments.proofs.forms.given_of.Statement.{statement}
 use Rattle.arguments.proofs.forms.given_of.Tie as tie
 
@@ -33,6 +33,12 @@ is-to c = sym (c .before .limit-form2 .ensures) ∙ c .if4 .taken
 
 no-to : (c : tie.Else4) → limitForm (ascii "TO") (c .before .before .before .before .before .before .before .before .before .before .before .args .text .now) ≡ false
 no-to c = sym (c .before .limit-form2 .ensures) ∙ c .if4 .left
+
+is-trap : (c : tie.Then5) → trapForm (c .before .before .before .before .before .before .before .before .before .before .before .before .before .args .text .now) ≡ true
+is-trap c = sym (c .before .trap-form .ensures) ∙ c .if5 .taken
+
+no-trap : (c : tie.Else5) → trapForm (c .before .before .before .before .before .before .before .before .before .before .before .before .before .args .text .now) ≡ false
+no-trap c = sym (c .before .trap-form .ensures) ∙ c .if5 .left
 
 value-requires : tie.Need-value-requires
 value-requires c κs = (search needs, omega (arith, byte-short (c .before .before .before .before .before .args .text .now) (is-byte (c .before .before)), ap length (c .after .ensures)))
@@ -70,8 +76,22 @@ returns-4 : tie.Need-returns-4
 returns-4 c =
     rw (c .value4 .ensures .0, c .before .after4 .ensures) (sym (gives-to (c .before .before .before .before .before .before .before .before .before .before .before .before .before .args .text .now) (no-byte (c .before .before .before .before .before .before .before .before .before .before)) (no-address (c .before .before .before .before .before .before .before .before)) (no-from (c .before .before .before .before .before)) (is-to (c .before .before))))
 
+value-requires-5 : tie.Need-value-requires-5
+value-requires-5 c κs = (search needs, omega (arith, trap-short (c .before .before .before .before .before .before .before .before .before .before .before .before .before .before .args .text .now) (is-trap (c .before)), ap length (c .trap-cycle .ensures)))
+
+value-requires-6 : tie.Need-value-requires-6
+value-requires-6 c κs = (search needs, omega (arith, trap-short (c .before .before .before .before .before .before .before .before .before .before .before .before .before .before .before .before .args .text .now) (is-trap (c .before .before .before)), ap length (c .trap-address .ensures)))
+
 returns-5 : tie.Need-returns-5
-returns-5 c = sym (gives-none (c .before .before .before .before .before .before .before .before .before .before .before .args .text .now) (no-byte (c .before .before .before .before .before .before .before .before)) (no-address (c .before .before .before .before .before .before)) (no-from (c .before .before .before)) (no-to c))
+returns-5 c =
+    let else4 = c .before .before .before .before .before .before in
+    rw (c .before .before .value5 .ensures .0, c .before .before .before .trap-cycle .ensures, c .value6 .ensures .0, c .before .trap-address .ensures)
+    (sym (gives-trap (else4 .before .before .before .before .before .before .before .before .before .before .before .args .text .now) (no-byte (else4 .before .before .before .before .before .before .before .before)) (no-address (else4 .before .before .before .before .before .before)) (no-from (else4 .before .before .before)) (no-to else4) (is-trap (c .before .before .before .before))))
+
+returns-6 : tie.Need-returns-6
+returns-6 c =
+    let else4 = c .before .before in
+    sym (gives-none (else4 .before .before .before .before .before .before .before .before .before .before .before .args .text .now) (no-byte (else4 .before .before .before .before .before .before .before .before)) (no-address (else4 .before .before .before .before .before .before)) (no-from (else4 .before .before .before)) (no-to else4) (no-trap c))
 
 pub given-of-spec : {M : Type 1} → statement M
 given-of-spec =
@@ -98,4 +118,10 @@ given-of-spec =
     (λ c κs. tt)
     value-requires-4
     returns-4
-    returns-5)
+    (λ c κs. tt)
+    (λ c κs. tt)
+    value-requires-5
+    (λ c κs. tt)
+    value-requires-6
+    returns-5
+    returns-6)

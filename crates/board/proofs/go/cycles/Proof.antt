@@ -13,12 +13,12 @@ use Rattle.board.proofs.go.cycles.Statement.{statement}
 use Rattle.board.proofs.go.cycles.Tie as tie
 
 abbrev Inv-loop : tie.InvT-loop
-Inv-loop view store main₀ local₀ budget room₀ now₀ done₀ out₀ main local room now done out =
+Inv-loop view before store main₀ local₀ budget room₀ now₀ done₀ out₀ main local room now done out =
     (done ≤ budget) × (length main ≡ length main₀) × (length local ≡ length local₀) × (length room ≡ length room₀)
     × (cyclesOf (budget - done) store main local now done ≡ cyclesOf budget store main₀ local₀ now₀ done₀)
 
 abbrev μ-loop : tie.MeasureT-loop
-μ-loop view store main₀ local₀ budget room₀ now₀ done₀ out₀ main local room now done out = budget - done
+μ-loop view before store main₀ local₀ budget room₀ now₀ done₀ out₀ main local room now done out = budget - done
 
 loop-holds : tie.Need-loop-holds Inv-loop μ-loop
 loop-holds c = (search needs, refl, refl, refl, rw sub-zero)
@@ -64,8 +64,10 @@ cycles-spec =
     loop-holds
     (λ c κs. tt)
     (λ c. search needs)
+    (λ c. search needs)
     (λ c κs. tt)
     (λ c κs. tt)
+    (λ c. search needs)
     (λ c. search needs)
     (λ c. search needs)
     (λ c κs. tt)

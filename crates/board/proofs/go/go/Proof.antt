@@ -30,7 +30,7 @@ go-spec =
     (λ c κs. tt)
     (λ c κs. tt)
     returns
-    (λ c κs. tt)
+    (λ c κs. search needs)
     (λ c. search needs)
     (λ c. search needs)
     (λ c. search needs)

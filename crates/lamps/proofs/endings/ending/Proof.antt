@@ -10,7 +10,7 @@ returns c = rw (c .before .before .before .before .before .enum-told .given .1) 
 
 returns-2 : tie.Need-returns-2
 unfolding endingOf
-returns-2 c = rw (c .before .before .before .before .before .how .given .1) (c .before .before .refused .ensures)
+returns-2 c = rw (c .before .before .before .before .before .before .how .given .1) (c .before .before .refused .ensures)
 
 returns-3 : tie.Need-returns-3
 unfolding endingOf
@@ -23,6 +23,7 @@ ending-spec =
     (λ c. search needs)
     (λ c. search needs)
     (λ c κs. search needs)
+    (λ c. search needs)
     (λ c. search needs)
     (λ c κs. search needs)
     (λ c. search needs)

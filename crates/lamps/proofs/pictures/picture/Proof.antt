@@ -4,7 +4,8 @@ use mathlib.Core.List.{[], _∷_, _++_}
 use borrow.Author.Needs.{needs}
 use Rattle.digits.proofs.Puts.{put-none}
 use Rattle.text.proofs.Texts.{too-small}
-use Rattle.lamps.specs.Picture.{titleOf, stateBlocks, workBlocks, pictureOf}
+use Rattle.channels.specs.Channels.{channels, workChannels}
+use Rattle.lamps.specs.Picture.{titleOf, blocksOf, pictureOf}
 use Rattle.lamps.proofs.Chain.{then, finished}
 use Rattle.lamps.proofs.pictures.picture.Statement.{statement}
 use Rattle.lamps.proofs.pictures.picture.Tie as tie
@@ -24,8 +25,8 @@ returns-2 c =
     let begun = first .before .before .before .before in
     let a = begun .before .before .args in
     let h = begun .if1 .left in
-    let lamps = stateBlocks (a .s) in
-    let adder = workBlocks (a .w) in
+    let lamps = blocksOf channels (a .s) in
+    let adder = blocksOf workChannels (a .w) in
     let p = put-none (pictureOf (a .cycle) (a .at) (a .s) (a .w)) (a .room .now) in
     let p = then p (titleOf (a .cycle) (a .at)) (lamps ++ (adder ++ (10 ∷ []))) refl (first .before .before .before .title .ensures) (first .after .ensures) h in
     let p = then p lamps (adder ++ (10 ∷ [])) refl refl (state .put-state .ensures) h in

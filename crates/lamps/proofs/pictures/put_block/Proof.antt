@@ -1,15 +1,14 @@
 -- The names, a line feed, the rows, and a line feed. Assumes nothing.
-use Prim.Native.Nat.{_+_, _-_, _*_, _≤_}
+use Prim.Native.Nat.{_+_, _-_, _*_}
 use mathlib.Core.Path.{_≡_, refl}
 use mathlib.Core.List.{[], _∷_, _++_}
 use native.Mathlib.Nat.{add-sub-cancel-left}
 use native.Mathlib.Omega.{arith}
-use lib.ListN.{length, take, length-append}
-use lib.Seq.{length-take-le}
+use lib.ListN.{length}
 use borrow.Author.Needs.{needs}
-use Rattle.digits.proofs.Puts.{put-turn, put-from, put-at}
+use Rattle.digits.proofs.Puts.{put-turn, put-from}
 use Rattle.lamps.specs.Picture.{blockBytes}
-use Rattle.lamps.proofs.Chain.{then}
+use Rattle.lamps.proofs.Chain.{then, fits-past, finished-past}
 use Rattle.lamps.proofs.Rows.{rowsIn, length-rows, length-block}
 use Rattle.lamps.proofs.pictures.put_block.Statement.{statement}
 use Rattle.lamps.proofs.pictures.put_block.Tie as tie
@@ -25,17 +24,13 @@ returns c =
     let new = rowsIn (a .digits .now) xs in
     let whole = blockBytes (a .names .now) (a .digits .now) xs in
     let size = length-block (a .names .now) (a .digits .now) xs (s .pre .0 .0) in
-    let front = length-take-le (a .at) (a .room .now) (omega (arith, s .pre)) in
-    let fits : length (take (a .at) (a .room .now) ++ whole) ≤ length (a .room .now) = rw (length-append (take (a .at) (a .room .now)) whole) (omega (arith, s .pre)) in
+    let fits = fits-past whole (a .room .now) (a .at) (omega (arith, s .pre)) in
     let k : second .after2 .result + 9 * length xs - second .after2 .result ≡ 9 * length xs = add-sub-cancel-left (second .after2 .result) (9 * length xs) in
     let p = put-from whole (a .room .now) (a .at) (omega (arith, s .pre)) in
     let p = then p (a .names .now) (10 ∷ (new ++ (10 ∷ []))) refl refl (first .after .ensures) fits in
     let p = then p (10 ∷ []) (new ++ (10 ∷ [])) refl refl (second .after2 .ensures) fits in
     let p = put-turn p new (10 ∷ []) _ (9 * length xs) refl (length-rows (a .digits .now) xs (s .pre .0 .0)) (rows .put-rows .ensures) fits in
-    let q = then p (10 ∷ []) [] refl refl (rw k at (c .before .before .after3 .ensures)) fits in
-    let r : c .before .before .after3 .result ≡ a .at + (length (a .names .now) + (9 * length xs + 2)) =
-    omega (arith, first .after .ensures .0, second .after2 .ensures .0, c .before .before .after3 .ensures .0) in
-    (r, (omega arith, put-at whole (a .room .now) (a .at) (omega (arith, s .pre)) q))
+    finished-past whole (a .room .now) (a .at) (omega (arith, s .pre)) (then p (10 ∷ []) [] refl refl (rw k at (c .before .before .after3 .ensures)) fits)
 
 pub put-block-spec : {M : Type 1} → statement M
 put-block-spec =

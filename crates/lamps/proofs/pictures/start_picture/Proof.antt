@@ -5,7 +5,8 @@ use borrow.Author.Needs.{needs}
 use Rattle.digits.proofs.Puts.{put-none}
 use Rattle.text.specs.Ascii.{ascii}
 use Rattle.text.proofs.Texts.{too-small}
-use Rattle.lamps.specs.Picture.{stateBlocks, startPictureOf}
+use Rattle.channels.specs.Channels.{channels}
+use Rattle.lamps.specs.Picture.{blocksOf, startPictureOf}
 use Rattle.lamps.proofs.Chain.{then, finished}
 use Rattle.lamps.proofs.pictures.start_picture.Statement.{statement}
 use Rattle.lamps.proofs.pictures.start_picture.Tie as tie
@@ -24,7 +25,7 @@ returns-2 c =
     let begun = first .before .before .before in
     let a = begun .before .before .args in
     let h = begun .if1 .left in
-    let lamps = stateBlocks (a .s) in
+    let lamps = blocksOf channels (a .s) in
     let p = put-none (startPictureOf (a .s)) (a .room .now) in
     let p = then p (ascii "CYCLE      0\n") (lamps ++ (10 ∷ [])) refl refl (first .after .ensures) h in
     let p = then p lamps (10 ∷ []) refl refl (state .put-state .ensures) h in

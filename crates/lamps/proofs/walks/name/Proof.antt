@@ -14,7 +14,7 @@ use Rattle.lamps.proofs.walks.name.Tie as tie
 
 returns : tie.Need-returns
 returns c =
-    let s = c .before .before .before .before .before .before .before in
+    let s = c .before .before .before .before .before in
     let row = s .args .row in
     let k : row * 9 + 9 - row * 9 ≡ 9 = add-sub-cancel-left (row * 9) 9 in
     append-nil _ ∙ (rw (k, name-at row (s .pre)) at (c .before .copy .ensures)) ∙ copied-full (rowName row) (replicate 9 32) (omega (arith, length-name row (s .pre)))

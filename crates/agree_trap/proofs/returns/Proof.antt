@@ -1,0 +1,35 @@
+use Prim.Native.Nat.{_≤_, _-_}
+use borrow.Author.Needs.{needs}
+use lib.ListN.{length}
+use mathlib.Core.Path.{_≡_}
+use Rattle.agree_trap.proofs.returns.Statement.{statement}
+use Rattle.agree_trap.proofs.returns.Tie as tie
+
+abbrev Inv-loop : tie.InvT-loop
+Inv-loop store₀ main₀ local₀ counts₀ g₀ k₀ store main local counts g k = (k ≤ 12288) × (length store ≡ length store₀) × (length main ≡ length main₀) × (length local ≡ length local₀) × (length counts ≡ length counts₀)
+
+abbrev μ-loop : tie.MeasureT-loop
+μ-loop store₀ main₀ local₀ counts₀ g₀ k₀ store main local counts g k = 12288 - k
+
+pub returns-spec : {M : Type 1} → statement M
+returns-spec =
+    tie.close
+    (tie.spec
+    Inv-loop
+    μ-loop
+    (λ c. search needs)
+    (λ c. search needs)
+    (λ c κs. tt)
+    (λ c κs. tt)
+    (λ c. search needs)
+    (λ c. search needs)
+    (λ c κs. tt)
+    (λ c. search needs)
+    (λ c. search needs)
+    (λ c. search needs)
+    (λ c. search needs)
+    (λ c κs. tt)
+    (λ c. search needs)
+    (λ c. search needs)
+    (λ c. search needs)
+    (λ c. search needs))
