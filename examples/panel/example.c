@@ -166,7 +166,8 @@ static int broken_into(void) {
     uint64_t words[64];
     uint32_t count = panel_shipped(words, 62);
     if (count != 21 || !routine(words + count) || !lay(&p) || run(&p, words, 23, 8) % 256 != PANEL_SPENT) return 1;
-    printf("trap to 015, from %03X: %u\n", wx(&p), panel_trap(0x15, p.state, sizeof p.state));
+    unsigned from = wx(&p);
+    printf("trap to 015, from %03X: %u\n", from, panel_trap(0x15, p.state, sizeof p.state));
     printf("a second trap: %u\n", panel_trap(0x16, p.state, sizeof p.state));
     if (press(&p, words, 23) != PANEL_RAN || press(&p, words, 23) != PANEL_RAN) return 1;
     printf("two cycles later at %03X, G %02X, return owed %u\n", wx(&p), p.state[PANEL_G], p.state[PANEL_OWED]);

@@ -1447,7 +1447,7 @@ fn desk(page: &str) -> PathBuf {
 
 #[test]
 fn the_pages_show_what_is_printed() {
-    for (page, least) in [("README.md", 3), ("docs/BOARD.md", 15)] {
+    for (page, least) in [("README.md", 3), ("docs/BOARD.md", 20)] {
         let (here, mut tried) = (desk(page), 0);
         for (line, shown) in commands_of(page) {
             if !TYPED.iter().any(|start| line.starts_with(start)) {
