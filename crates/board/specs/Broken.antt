@@ -4,14 +4,14 @@ use mathlib.Core.Path.{_≡_}
 use mathlib.Core.List.{List, [], _∷_}
 use mathlib.Core.Bool.{Bool, true, false, cond}
 use Rattle.machine.specs.Cycle.{Outcome}
-use Rattle.trap.specs.Trap.{trapOf}
 use Rattle.machine.specs.declared.State.{State}
-use Rattle.trap.specs.declared.Trapped.{Trapped}
-use Rattle.trap.specs.declared.Trapped.the-variants as T
 use Rattle.run.specs.Run.{runOf}
 use Rattle.run.specs.declared.Ending.{Ending}
 use Rattle.run.specs.declared.Ending.the-variants as E
 use Rattle.run.specs.declared.Finished.{Finished}
+use Rattle.trap.specs.Trap.{trapOf}
+use Rattle.trap.specs.declared.Trapped.{Trapped}
+use Rattle.trap.specs.declared.Trapped.the-variants as T
 
 -- the state after a trap, be it taken or refused
 abbrev pub stateOf : Trapped → State
@@ -28,7 +28,8 @@ isSpent E.Spent = true
 abbrev pub onTrap : ℕ → (List ℕ → List ℕ → State → Outcome Finished) → Outcome Finished → Outcome Finished
 onTrap address rest o = cond (isSpent (o .answer .ending)) (rest (o .main) (o .local) (stateOf (trapOf address (o .answer .state)))) o
 
--- a run with traps, each after so many cycles more, to an address; what is left of the budget runs after the last. The count is the last piece's.
+-- a run with traps, each after so many cycles more, to an address; what is left of the budget runs after the last. The count is the last
+-- piece's.
 unfoldable pub brokenOf : List (ℕ × ℕ) → ℕ → List ℕ → List ℕ → List ℕ → State → Outcome Finished
 brokenOf [] budget store main local s = runOf budget store main local s
 brokenOf ((cycles, address) ∷ traps) budget store main local s =

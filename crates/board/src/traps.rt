@@ -38,7 +38,7 @@ pub fn asked(at: usize) -> Trap {
     let Given::Trap(cycle, address) = arguments::given_of(&text[..n]) else {
         return none();
     };
-    // no argument gives cycle 0
+    // No argument gives cycle 0.
     if cycle == 0 {
         return none();
     }

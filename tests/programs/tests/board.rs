@@ -1139,43 +1139,44 @@ fn what_a_run_does_not_know_is_told() {
 }
 
 /// No cycle, no address, a cycle 0 or over 1,000,000, an address of no or too many digits, and others.
+const NO_TRAPS: [&str; 30] = [
+    "TRAP=0:0A0",
+    "TRAP=0000000:0",
+    "TRAP=5",
+    "TRAP=5:",
+    "TRAP=:0A0",
+    "TRAP=:",
+    "TRAP=",
+    "TRAP",
+    "TRAP=5:12345",
+    "TRAP=5:00000",
+    "TRAP=1000001:0",
+    "TRAP=00000005:0",
+    "TRAP=5:0G0",
+    "TRAP=A:0",
+    "TRAP==5:0",
+    "TRAP:5:0",
+    "TRAP=5:0:0",
+    "TRAP=5::0",
+    "TRAP=5,0A0",
+    "TRAP=5 0A0",
+    "TRAP= 5:0",
+    "TRAP=5: 0",
+    "TRAP=5:0 ",
+    " TRAP=5:0",
+    "TRAP=-5:0",
+    "TRAP=5:-1",
+    "TRAP=5:0x0",
+    "TRAPS=5:0",
+    "RAP=5:0",
+    "T=5:0",
+];
+
 #[test]
 fn a_trap_that_is_none_is_told() {
     let given = Files::endless("board_no_trap");
     let long = "TRAP=5:0A0".to_owned() + &"0".repeat(90);
-    for argument in [
-        "TRAP=0:0A0",
-        "TRAP=0000000:0",
-        "TRAP=5",
-        "TRAP=5:",
-        "TRAP=:0A0",
-        "TRAP=:",
-        "TRAP=",
-        "TRAP",
-        "TRAP=5:12345",
-        "TRAP=5:00000",
-        "TRAP=1000001:0",
-        "TRAP=00000005:0",
-        "TRAP=5:0G0",
-        "TRAP=A:0",
-        "TRAP==5:0",
-        "TRAP:5:0",
-        "TRAP=5:0:0",
-        "TRAP=5::0",
-        "TRAP=5,0A0",
-        "TRAP=5 0A0",
-        "TRAP= 5:0",
-        "TRAP=5: 0",
-        "TRAP=5:0 ",
-        " TRAP=5:0",
-        "TRAP=-5:0",
-        "TRAP=5:-1",
-        "TRAP=5:0x0",
-        "TRAPS=5:0",
-        "RAP=5:0",
-        "T=5:0",
-        &long,
-    ] {
+    for argument in NO_TRAPS.into_iter().chain([long.as_str()]) {
         given.tells(&[argument], 5, NEITHER);
         given.tells(&["TRAP=5:1", "TO=1", argument], 7, NEITHER);
     }
