@@ -2,16 +2,14 @@
 use Prim.Native.Nat.{ℕ, zero, suc, _≤_}
 use mathlib.Core.Path.{_≡_, refl, sym, ap, subst, _∙_}
 use mathlib.Core.List.{List}
-use mathlib.Core.Bool.{Bool, true, false}
+use mathlib.Core.Bool.{Bool, true}
 use native.Mathlib.Omega.{arith}
 use borrow.Author.Tests.{not-true}
 use Rattle.word.specs.Layout.{fieldsOf}
-use Rattle.word.specs.Parity.{isReturn}
 use Rattle.word.specs.declared.Fields.{Fields}
-use Rattle.machine.specs.Cycle.{Outcome, outcome, wordAt, cycleOf}
+use Rattle.machine.specs.Cycle.{Outcome, wordAt}
 use Rattle.machine.specs.declared.State.{State}
 use Rattle.machine.specs.declared.Cycled.{Cycled}
-use Rattle.machine.specs.declared.Cycled.the-variants as C
 use Rattle.run.specs.Run.{runOf}
 use Rattle.run.specs.Divided.{writes}
 use Rattle.run.specs.declared.Finished.{Finished}
