@@ -34,6 +34,9 @@ enum panel_channel {
 
 enum panel_kind { PANEL_RAN = 0, PANEL_STOPPED = 1, PANEL_REFUSED = 2, PANEL_SPENT = 3, PANEL_SUMMED = 4, PANEL_BAD_DIGIT = 5 };
 
+/* How a store is read. Any other value than 0 is compatibility. */
+enum panel_reading { PANEL_BASIC = 0, PANEL_COMPATIBILITY = 1 };
+
 /* The fields of a word by place, high end first: CN 1, PN 2, PA 3, CH 4, CL 5, CM 6, CU 7, CA 8, AA 9, CB 10,
  * CK 11, AK 12, PK 13, PS 14, CD 15, CF 16, CG 17, CV 18, CC 19, CS 20, AS 21, PC 22. Refusal 10 names one. */
 
@@ -47,11 +50,11 @@ uint32_t panel_pack(const uint8_t *fields, size_t fields_len, uint32_t address, 
 
 /* One cycle. kind + 256 * refusal number + 65536 * field of refusal 10 (else 0). PANEL_RAN, PANEL_STOPPED or
  * PANEL_REFUSED. 19 where fewer than PANEL_STATE bytes of state are lent, checked first. */
-uint32_t panel_cycle(const uint64_t *store, size_t words, uint8_t *main, size_t main_len,
+uint32_t panel_cycle(uint8_t reading, const uint64_t *store, size_t words, uint8_t *main, size_t main_len,
                      uint8_t *local, size_t local_len, uint8_t *state, size_t state_len);
 
 /* A run. The same three parts, and 2^32 * the cycles that ran. PANEL_STOPPED, PANEL_REFUSED or PANEL_SPENT. */
-uint64_t panel_run(const uint64_t *store, size_t words, uint8_t *main, size_t main_len,
+uint64_t panel_run(uint8_t reading, const uint64_t *store, size_t words, uint8_t *main, size_t main_len,
                    uint8_t *local, size_t local_len, uint8_t *state, size_t state_len, uint32_t budget);
 
 /* The work of the word that would run next, for the jumper and for lamps between the registers and the adder. */

@@ -2,8 +2,8 @@
  * add 38, 47 and a carry by the shipped words, a cycle at a time, and look into the adder before each cycle. Then make
  * that addition on two panels, one with the single-cycle button and then the run button, one with the run button alone.
  * Then add with the six already in D, and see the lamp that tells. Then read a signed field, write its number back, and
- * read one whose sign is bad. Then subtract with signs. Last, break into an addition by a trap. build.sh beside this file
- * builds and runs it.
+ * read one whose sign is bad. Then subtract with signs. Then break into an addition by a trap. Last, read two words as
+ * basic and as compatibility. build.sh beside this file builds and runs it.
  */
 #include "../../include/panel.h"
 
@@ -18,7 +18,7 @@ static uint8_t local_storage[256];
 static uint8_t state[PANEL_STATE]; /* WX 0, all registers zero, latches off, nothing arriving */
 
 static uint32_t cycle(const uint64_t *store, size_t words) {
-    return panel_cycle(store, words, main_storage, sizeof main_storage, local_storage, sizeof local_storage,
+    return panel_cycle(PANEL_BASIC, store, words, main_storage, sizeof main_storage, local_storage, sizeof local_storage,
                        state, sizeof state);
 }
 
@@ -71,12 +71,14 @@ struct panel {
 
 /* The single-cycle button. */
 static uint32_t press(struct panel *p, const uint64_t *words, size_t count) {
-    return panel_cycle(words, count, p->main, sizeof p->main, p->local, sizeof p->local, p->state, sizeof p->state);
+    return panel_cycle(PANEL_BASIC, words, count, p->main, sizeof p->main, p->local, sizeof p->local, p->state,
+                       sizeof p->state);
 }
 
 /* The run button. */
 static uint64_t run(struct panel *p, const uint64_t *words, size_t count, uint32_t budget) {
-    return panel_run(words, count, p->main, sizeof p->main, p->local, sizeof p->local, p->state, sizeof p->state, budget);
+    return panel_run(PANEL_BASIC, words, count, p->main, sizeof p->main, p->local, sizeof p->local, p->state,
+                     sizeof p->state, budget);
 }
 
 static int lay(struct panel *p) {
@@ -176,8 +178,29 @@ static int broken_into(void) {
     return rest % 256 != PANEL_STOPPED;
 }
 
+/* One word with this CL, from a record with R1 and G1 on and 1BC off: where it leads, or what refuses it. */
+static int read_as(uint8_t reading, uint8_t cl) {
+    const uint8_t fields[18] = {0, 0, cl, 1, 0, 4}; /* CN CH CL CM CU CA; the others are 0 */
+    uint8_t record[PANEL_STATE] = {0};
+    uint64_t word = 0;
+    if (panel_pack(fields, sizeof fields, 0, &word, 1) != 0) return 1;
+    record[PANEL_R] = record[PANEL_G] = 0x40;
+    uint32_t answer = panel_cycle(reading, &word, 1, main_storage, sizeof main_storage, local_storage,
+                                  sizeof local_storage, record, sizeof record);
+    printf("CL %u, read as %s: ", cl, reading == PANEL_BASIC ? "basic" : "compatibility");
+    if (answer == PANEL_RAN) printf("next word %X%02X\n", record[PANEL_WX_HIGH], record[PANEL_WX_LOW]);
+    else printf("refused by %u, field %u\n", answer / 256 % 256, answer / 65536);
+    return answer % 256 == PANEL_STOPPED;
+}
+
+/* CL 6 tests 1BC in basic, and R1 in compatibility. CL 4 is no code of basic, and tests G1 in compatibility. */
+static int two_readings(void) {
+    return read_as(PANEL_BASIC, 6) != 0 || read_as(PANEL_COMPATIBILITY, 6) != 0 || read_as(PANEL_BASIC, 4) != 0 ||
+           read_as(PANEL_COMPATIBILITY, 4) != 0;
+}
+
 int main(void) {
     return one_cycle_of_p() != 0 || shipped_words() != 0 || two_buttons() != 0 || six_by_hand(0x47) != 0 ||
-           six_by_hand(0xAD) != 0 || signed_fields() != 0 || with_signs() != 0 ||
-           broken_into() != 0;
+           six_by_hand(0xAD) != 0 || signed_fields() != 0 || with_signs() != 0 || broken_into() != 0 ||
+           two_readings() != 0;
 }

@@ -1,4 +1,4 @@
-// Drawn numbers, and drawn words of every kind that is modelled, but for stops and returns.
+// Drawn numbers, and drawn words of every kind that basic models, but for stops and returns.
 typedef unsigned char u8;
 typedef unsigned long u64;
 

@@ -1,5 +1,5 @@
-// Times the proved engine, by rule and by table, and the plain engine on the same two stores, and prints nanoseconds a cycle:
-// host SMALL.so LARGE.so, the two boards' libraries.
+// Times the proved engine, by rule and by table, and the plain engine on the same two stores, read as basic, and prints
+// nanoseconds a cycle: host SMALL.so LARGE.so, the two boards' libraries.
 #include "../../include/panel.h"
 #include "drawn.h"
 #include "plain.h"
@@ -48,7 +48,7 @@ static u64 answered(u64 done, u64 wx, u64 digit_carry, u64 invalid) {
 
 static u64 by_plain(struct storage *s) {
     struct plain state = {0};
-    u64 done = plain_run(store, WORDS, s->main, MAIN, s->local, &state, BUDGET);
+    u64 done = plain_run(PANEL_BASIC, store, WORDS, s->main, MAIN, s->local, &state, BUDGET);
     return answered(done, state.wx, state.digit_carry, state.invalid);
 }
 
@@ -57,7 +57,7 @@ static __typeof__(panel_run) *small, *large;
 // A run from a record of zeros.
 static u64 by(__typeof__(panel_run) *run, struct storage *s) {
     u8 state[PANEL_STATE] = {0};
-    u64 done = run(store, WORDS, s->main, MAIN, s->local, LOCAL, state, PANEL_STATE, BUDGET) >> 32;
+    u64 done = run(PANEL_BASIC, store, WORDS, s->main, MAIN, s->local, LOCAL, state, PANEL_STATE, BUDGET) >> 32;
     return answered(done, state[PANEL_WX_HIGH] << 8 | state[PANEL_WX_LOW], state[PANEL_DIGIT_CARRY], state[PANEL_INVALID]);
 }
 
@@ -92,7 +92,7 @@ static void told(const char *name, struct storage *s) {
     draw(s);
     for (int k = 0; k < BUDGET; k++) {
         times[state.wx]++;
-        plain_run(store, WORDS, s->main, MAIN, s->local, &state, 1);
+        plain_run(PANEL_BASIC, store, WORDS, s->main, MAIN, s->local, &state, 1);
     }
     for (int at = 0; at < WORDS; at++) {
         words += times[at] > 0;

@@ -31,20 +31,22 @@ static int fault(u64 w, u32 at) {
     return 0;
 }
 
-static const u16 no_ch = 0x0030, no_cl = 0x9018, no_ca = 0x004F, no_cd = 0x001E, no_cs = 0xC020;
+// What 10 refuses, a bit for each code; CH, CL and CS in basic and in compatibility.
+static const u16 no_ch[2] = {0x0030, 0x0038}, no_cl[2] = {0x9018, 0x8008}, no_cs[2] = {0xC020, 0x4000};
+static const u16 no_ca = 0x004F, no_cd = 0x001E;
 
 // 10's field, or 0.
-static int unmodelled(u64 w) {
+static int unmodelled(int reading, u64 w) {
     u32 cm = w >> 36 & 7, cu = w >> 34 & 3;
-    if (no_ch >> (w >> 43 & 15) & 1) return 4;
-    if (no_cl >> (w >> 39 & 15) & 1) return 5;
+    if (no_ch[reading] >> (w >> 43 & 15) & 1) return 4;
+    if (no_cl[reading] >> (w >> 39 & 15) & 1) return 5;
     if (cm > 5) return 6;
     if (cu == (cm < 3 ? 1 : 2)) return 7;
     if ((w >> 39 & 15) != 2 && no_ca >> (w >> 30 & 15) & 1) return 8;
     if (w >> 29 & 1) return 9;
     if (w >> 22 & 1) return 12;
     if (no_cd >> (w >> 16 & 15) & 1) return 15;
-    if (no_cs >> (w >> 2 & 15) & 1) return 20;
+    if (no_cs[reading] >> (w >> 2 & 15) & 1) return 20;
     if (w >> 1 & 1) return 21;
     return 0;
 }
@@ -56,7 +58,7 @@ static u8 *reg(struct plain *s, int code) {
 
 enum { I, J, U, V, L, T, D, R, S, G, H, M, N };
 
-static int high_branch(const struct plain *s, int ch) {
+static int high_branch(int reading, const struct plain *s, int ch) {
     const u8 *r = s->reg;
     switch (ch) {
     case 1: return 1;
@@ -64,7 +66,7 @@ static int high_branch(const struct plain *s, int ch) {
     case 3: return (r[V] & 3) == 0;
     case 6: return s->ac;
     case 7: return bit(r[S], 0);
-    case 8: return bit(r[S], 1);
+    case 8: return reading ? bit(r[R], 2) : bit(r[S], 1);
     case 9: return bit(r[S], 2);
     case 10: return bit(r[S], 4);
     case 11: return bit(r[S], 6);
@@ -76,18 +78,20 @@ static int high_branch(const struct plain *s, int ch) {
     }
 }
 
-static int low_branch(const struct plain *s, int cl) {
+static int low_branch(int reading, const struct plain *s, int cl) {
     const u8 *r = s->reg;
     switch (cl) {
     case 1:
     case 2: return 1;
+    case 4: return bit(r[G], 1);
     case 5: return !over_9(r[R]);
-    case 6: return s->bc1;
+    case 6: return reading ? bit(r[R], 1) : s->bc1;
     case 7: return s->z0;
     case 8: return bit(r[G], 7);
     case 9: return bit(r[S], 3);
     case 10: return bit(r[S], 5);
     case 11: return bit(r[S], 7);
+    case 12: return bit(r[R], 3);
     case 13: return bit(r[G], 3);
     case 14: return bit(r[G], 5);
     default: return 0;
@@ -100,6 +104,7 @@ static u8 status(int cs, u8 s, u8 z) {
     case 2: return set(s, 4, !(z >> 4));
     case 3: return set(set(s, 5, !(z & 15)), 4, !(z >> 4));
     case 4: return s & 0xF3;
+    case 5: return set(s, 1, 1);
     case 6: return set(s, 0, 0);
     case 7: return set(s, 0, 1);
     case 8: return set(s, 2, 0);
@@ -108,26 +113,27 @@ static u8 status(int cs, u8 s, u8 z) {
     case 11: return set(s, 6, 1);
     case 12: return set(s, 7, 0);
     case 13: return set(s, 7, 1);
+    case 15: return set(s, 1, 0);
     default: return s;
     }
 }
 
 // 0 ran, 1 stopped, 256 * number + field refused.
-static int cycle(const u64 *store, u64 words, u8 *main, u64 bytes, u8 *local, struct plain *s) {
+static int cycle(int reading, const u64 *store, u64 words, u8 *main, u64 bytes, u8 *local, struct plain *s) {
     if (s->wx >= words) return 2 << 8;
     u64 w = store[s->wx];
     int no = fault(w, s->wx);
     if (no) return no << 8;
     int cf = w >> 13 & 7;
     if (cf == 4) return 1;
-    no = unmodelled(w);
+    no = unmodelled(reading, w);
     if (no) return 10 << 8 | no;
     int cl = w >> 39 & 15, cm = w >> 36 & 7, cu = w >> 34 & 3, ck = w >> 23 & 15, cc = w >> 6 & 7, cv = w >> 9 & 3;
     struct plain t = *s;
     if (t.arriving && cm != 2) t.reg[R] = t.byte;
     t.arriving = t.byte = 0;
     // Branches and sources.
-    u32 x = (w >> 49 & 63) << 2 | high_branch(&t, w >> 43 & 15) << 1 | low_branch(&t, cl);
+    u32 x = (w >> 49 & 63) << 2 | high_branch(reading, &t, w >> 43 & 15) << 1 | low_branch(reading, &t, cl);
     u32 module = cl == 2 ? w >> 30 & 15 : cm < 3 && cu == 2 ? (u32)ck : t.wx >> 8;
     u8 a = cl == 2 ? 0 : *reg(&t, w >> 30 & 15), b, z;
     switch (w >> 27 & 3) {
@@ -187,8 +193,8 @@ static int cycle(const u64 *store, u64 words, u8 *main, u64 bytes, u8 *local, st
     return 0;
 }
 
-u64 plain_run(const u64 *store, u64 words, u8 *main, u64 bytes, u8 *local, struct plain *s, u32 budget) {
+u64 plain_run(u8 reading, const u64 *store, u64 words, u8 *main, u64 bytes, u8 *local, struct plain *s, u32 budget) {
     u32 done = 0;
-    while (done < budget && !cycle(store, words, main, bytes, local, s)) done++;
+    while (done < budget && !cycle(reading != 0, store, words, main, bytes, local, s)) done++;
     return done;
 }

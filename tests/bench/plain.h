@@ -5,5 +5,6 @@ struct plain {
     unsigned char ac, bc1, z0, allow, local, arriving, byte, digit_carry, invalid, owed;
 };
 
-unsigned long plain_run(const unsigned long *store, unsigned long words, unsigned char *main, unsigned long bytes,
-                        unsigned char *local, struct plain *state, unsigned int budget);
+// The reading is basic at 0 and compatibility at any other value.
+unsigned long plain_run(unsigned char reading, const unsigned long *store, unsigned long words, unsigned char *main,
+                        unsigned long bytes, unsigned char *local, struct plain *state, unsigned int budget);

@@ -114,15 +114,17 @@ static uint64_t called(int call) {
         return panel_pack(fields, count_of(0), address, word, count_of(1));
     }
     case 2: {
+        uint8_t reading = (uint8_t)number();
         uint64_t *store = slice(8);
         uint8_t *main = slice(1), *local = slice(1), *state = slice(1);
-        return panel_cycle(store, count_of(0), main, count_of(1), local, count_of(2), state, count_of(3));
+        return panel_cycle(reading, store, count_of(0), main, count_of(1), local, count_of(2), state, count_of(3));
     }
     case 3: {
+        uint8_t reading = (uint8_t)number();
         uint64_t *store = slice(8);
         uint8_t *main = slice(1), *local = slice(1), *state = slice(1);
         uint32_t budget = (uint32_t)number();
-        return panel_run(store, count_of(0), main, count_of(1), local, count_of(2), state, count_of(3), budget);
+        return panel_run(reading, store, count_of(0), main, count_of(1), local, count_of(2), state, count_of(3), budget);
     }
     case 4: {
         uint8_t *main = slice(1), *local = slice(1);

@@ -67,7 +67,7 @@ static int decks_are_the_same(void) {
 
 static void cycle(struct board *b) {
     b->sum = b->next_sum(b->store, b->words, b->state, PANEL_STATE, b->work, PANEL_WORK);
-    b->answer = b->cycle(b->store, b->words, b->main, bytes, b->local, LOCAL, b->state, PANEL_STATE);
+    b->answer = b->cycle(PANEL_BASIC, b->store, b->words, b->main, bytes, b->local, LOCAL, b->state, PANEL_STATE);
 }
 
 /* What both were lent, and what they answered. */
@@ -188,7 +188,7 @@ static int drawn(void) {
 }
 
 static void run(struct board *b, uint32_t budget) {
-    b->answer = b->run(b->store, b->words, b->main, bytes, b->local, LOCAL, b->state, PANEL_STATE, budget);
+    b->answer = b->run(PANEL_BASIC, b->store, b->words, b->main, bytes, b->local, LOCAL, b->state, PANEL_STATE, budget);
 }
 
 /* The longest run, from where the drawn words stand. */

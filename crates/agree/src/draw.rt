@@ -1,8 +1,9 @@
 // Words drawn from the generator's numbers: most are modelled and run, some are damaged or refused.
+use codes::Reading;
 use word::Fields;
 use word::Packed;
 
-// The modelled codes of a field, some of them more than once.
+// The codes of a field that are modelled in basic, some of them more than once.
 const CH: [u8; 16] = [0, 1, 2, 3, 6, 7, 8, 9, 10, 11, 12, 13, 14, 15, 0, 1];
 
 const CL: [u8; 16] = [0, 1, 2, 5, 6, 7, 8, 9, 10, 11, 13, 14, 2, 1, 0, 5];
@@ -58,9 +59,57 @@ pub fn with_right_pk(f: Fields) -> Fields {
     }
 }
 
-// Modelled fields that do not stop. Where CL = 2 any CA is modelled.
-pub fn modelled(a: u64, b: u64) -> Fields {
-    let cl = pick(CL, a / 0x1000);
+// Basic or compatibility.
+pub fn reading_of(x: u64) -> Reading {
+    if x % 2 == 0 {
+        Reading::Basic
+    } else {
+        Reading::Compatibility
+    }
+}
+
+// Which of the seven codes a word is to have: in compatibility each in one word of 16 that it is modelled in, in basic none by this.
+fn wanted(reading: Reading, a: u64) -> u64 {
+    match reading {
+        Reading::Basic => 0,
+        Reading::Compatibility => a / 0x20_0000_0000 % 16,
+    }
+}
+
+// CH 3 is not modelled in compatibility.
+fn drawn_ch(reading: Reading, seven: u64, ch: u8) -> u8 {
+    if seven == 1 {
+        return 8;
+    }
+    if let Reading::Compatibility = reading {
+        if ch == 3 {
+            return 2;
+        }
+    }
+    ch
+}
+
+fn drawn_cl(seven: u64, cl: u8) -> u8 {
+    match seven {
+        2 => 4,
+        3 => 6,
+        4 => 12,
+        _ => cl,
+    }
+}
+
+fn drawn_cs(seven: u64, cs: u8) -> u8 {
+    match seven {
+        5 => 5,
+        6 => 15,
+        _ => cs,
+    }
+}
+
+// Fields that are modelled under the reading and do not stop. Where CL = 2 any CA is modelled.
+pub fn modelled(reading: Reading, a: u64, b: u64) -> Fields {
+    let seven = wanted(reading, a);
+    let cl = drawn_cl(seven, pick(CL, a / 0x1000));
     let cm = pick(CM, a / 0x1_0000);
     let ca = if cl == 2 {
         (a / 0x100_0000 % 16) as u8
@@ -69,7 +118,7 @@ pub fn modelled(a: u64, b: u64) -> Fields {
     };
     with_right_pk(Fields {
         cn: (a % 64) as u8,
-        ch: pick(CH, a / 0x100),
+        ch: drawn_ch(reading, seven, pick(CH, a / 0x100)),
         cl: cl,
         cm: cm,
         cu: drawn_cu(cl, cm, a / 0x10_0000),
@@ -84,7 +133,7 @@ pub fn modelled(a: u64, b: u64) -> Fields {
         cg: (b / 0x100 % 4) as u8,
         cv: (b / 0x400 % 4) as u8,
         cc: (b / 0x1000 % 8) as u8,
-        cs: pick(CS, b / 0x8000),
+        cs: drawn_cs(seven, pick(CS, b / 0x8000)),
         asb: 0,
     })
 }
@@ -134,6 +183,22 @@ fn replaced(f: Fields, which: u64, x: u64) -> Fields {
     f
 }
 
+// The fields with one of the seven codes on which the readings differ.
+fn with_code(f: Fields, which: u64) -> Fields {
+    let mut f = f;
+    match which {
+        0 => f.ch = 3,
+        1 => f.ch = 8,
+        2 => f.cl = 4,
+        3 => f.cl = 6,
+        4 => f.cl = 12,
+        5 => f.cs = 5,
+        6 => f.cs = 15,
+        _ => (),
+    }
+    f
+}
+
 // The fields of a word that sends CA to W and touches CU no more.
 fn to_w(f: Fields) -> Fields {
     with_right_pk(Fields {
@@ -161,17 +226,23 @@ fn twice(x: u64) -> u64 {
     }
 }
 
-// A word for the address, which by 64 kinds of `x` is modelled, has one field of any code, has all of any code, is
+// A word for the address, which by 64 kinds of `x` is modelled under the reading, has one of the seven codes, one field of any code, has all of any code, is
 // damaged in one bit, stands at another address, sends CA to W beside K or a return, has PK turned, or is any 55 bits.
-pub fn word_for(a: u64, b: u64, x: u64, address: u32) -> u64 {
+pub fn word_for(reading: Reading, a: u64, b: u64, x: u64, address: u32) -> u64 {
     let kind = x % 64;
     let rest = x / 64;
     if kind < 44 {
-        return packed(modelled(a, b), address);
+        return packed(modelled(reading, a, b), address);
+    }
+    if kind < 47 {
+        return packed(
+            with_right_pk(with_code(modelled(reading, a, b), rest % 7)),
+            address,
+        );
     }
     if kind < 50 {
         return packed(
-            with_right_pk(replaced(modelled(a, b), rest % 11, rest / 16)),
+            with_right_pk(replaced(modelled(reading, a, b), rest % 11, rest / 16)),
             address,
         );
     }
@@ -179,16 +250,16 @@ pub fn word_for(a: u64, b: u64, x: u64, address: u32) -> u64 {
         return packed(raw(a, b), address);
     }
     if kind < 60 {
-        return packed(modelled(a, b), address) ^ (1u64 << (rest % 64));
+        return packed(modelled(reading, a, b), address) ^ (1u64 << (rest % 64));
     }
     if kind < 61 {
-        return packed(modelled(a, b), (rest % 4096) as u32);
+        return packed(modelled(reading, a, b), (rest % 4096) as u32);
     }
     if kind < 62 {
-        return packed(to_w(modelled(a, b)), address) ^ twice(rest);
+        return packed(to_w(modelled(reading, a, b)), address) ^ twice(rest);
     }
     if kind < 63 {
-        return packed(modelled(a, b), address) ^ 0x30_0000;
+        return packed(modelled(reading, a, b), address) ^ 0x30_0000;
     }
     a / 512
 }
@@ -199,13 +270,19 @@ pub fn drawn_rate(x: u64) -> u64 {
 }
 
 // A word of a run's store.
-fn store_word(a: u64, b: u64, x: u64, rate: u64, address: u32) -> u64 {
+fn store_word(reading: Reading, a: u64, b: u64, x: u64, rate: u64, address: u32) -> u64 {
     let roll = x % 256;
     if roll < rate {
         // A kind that is seldom a word that runs.
-        return word_for(a, b, x / 0x1_0000 * 64 + 44 + x / 256 % 20, address);
+        return word_for(
+            reading,
+            a,
+            b,
+            x / 0x1_0000 * 64 + 44 + x / 256 % 20,
+            address,
+        );
     }
-    let f = modelled(a, b);
+    let f = modelled(reading, a, b);
     if roll / 2 < rate {
         return packed(Fields { cf: 4, ..f }, address);
     }
@@ -213,13 +290,13 @@ fn store_word(a: u64, b: u64, x: u64, rate: u64, address: u32) -> u64 {
 }
 
 // Words in all of the store; the generator's last number is the answer.
-pub fn fill_store(x: u64, rate: u64, store: &mut [u64]) -> u64 {
+pub fn fill_store(reading: Reading, x: u64, rate: u64, store: &mut [u64]) -> u64 {
     let mut x = x;
     for k in 0..store.len() {
         let a = crate::next(x);
         let b = crate::next(a);
         x = crate::next(b);
-        store[k] = store_word(a, b, x, rate, (k % 4096) as u32);
+        store[k] = store_word(reading, a, b, x, rate, (k % 4096) as u32);
     }
     x
 }

@@ -8,6 +8,7 @@ pub use draw::fill_store;
 pub use draw::modelled;
 pub use draw::packed;
 pub use draw::raw;
+pub use draw::reading_of;
 pub use draw::with_right_pk;
 pub use draw::word_for;
 pub use fields::Trial;

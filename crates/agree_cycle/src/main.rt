@@ -1,13 +1,15 @@
-// Single cycles against tests/second, and the work that would be done in each: drawn words, states and storage sizes.
+// Single cycles against tests/second, and the work that would be done in each: drawn words, readings, states and storage sizes.
 use agree::Lent;
+use codes::Reading;
 use libc::STDOUT_FILENO;
 use machine::Cycled;
 use machine::NextSum;
 use machine::State;
 use word::Fields;
 
-// A case: the word that stands at WX, the state, and how much of each storage is lent.
+// A case: the reading, the word that stands at WX, the state, and how much of each storage is lent.
 struct Trial {
+    reading: Reading,
     word: u64,
     state: State,
     lent: Lent,
@@ -39,6 +41,7 @@ fn drawn_wx(words: usize, x: u64) -> u16 {
 }
 
 fn drawn(a: u64, b: u64, c: u64, e: u64, f: u64, g: u64) -> Trial {
+    let reading = agree::reading_of(g / 0x100_0000_0000);
     let words = store_size(f / 0x100);
     let main = main_size(f / 0x800);
     let wx = drawn_wx(words, g);
@@ -52,7 +55,8 @@ fn drawn(a: u64, b: u64, c: u64, e: u64, f: u64, g: u64) -> Trial {
         local: 256,
     };
     Trial {
-        word: agree::word_for(a, b, f / 0x1_0000, wx as u32 % 4096),
+        reading: reading,
+        word: agree::word_for(reading, a, b, f / 0x1_0000, wx as u32 % 4096),
         state: chosen,
         lent: agree::seldom_wrong(f % 256, lent),
     }
@@ -158,8 +162,42 @@ fn count_lamps(word: u64, sum: NextSum, c: Cycled, counts: &mut [u32]) {
     agree::tally(counts, place(ran & kept_out, 112));
 }
 
+// Where a code is counted, by reading.
+fn column(reading: Reading, basic: usize, compatibility: usize) -> usize {
+    match reading {
+        Reading::Basic => basic,
+        Reading::Compatibility => compatibility,
+    }
+}
+
+// The cycles that ran with one of the seven codes, by reading, from 120 on.
+fn count_ch(reading: Reading, ran: bool, ch: u8, counts: &mut [u32]) {
+    agree::tally(counts, place(ran & (ch == 3), column(reading, 120, 121)));
+    agree::tally(counts, place(ran & (ch == 8), column(reading, 122, 123)));
+}
+
+fn count_cl(reading: Reading, ran: bool, cl: u8, counts: &mut [u32]) {
+    agree::tally(counts, place(ran & (cl == 4), column(reading, 124, 125)));
+    agree::tally(counts, place(ran & (cl == 6), column(reading, 126, 127)));
+    agree::tally(counts, place(ran & (cl == 12), column(reading, 128, 129)));
+}
+
+fn count_cs(reading: Reading, ran: bool, cs: u8, counts: &mut [u32]) {
+    agree::tally(counts, place(ran & (cs == 5), column(reading, 130, 131)));
+    agree::tally(counts, place(ran & (cs == 15), column(reading, 132, 133)));
+}
+
+fn count_codes(reading: Reading, word: u64, c: Cycled, counts: &mut [u32]) {
+    let ran = number_of(c) == 100;
+    let f = word::fields_of(word);
+    count_ch(reading, ran, f.ch, counts);
+    count_cl(reading, ran, f.cl, counts);
+    count_cs(reading, ran, f.cs, counts);
+}
+
 fn answered(
     digest: u64,
+    reading: Reading,
     word: u64,
     store: &[u64],
     main: &mut [u8],
@@ -168,9 +206,10 @@ fn answered(
     counts: &mut [u32],
 ) -> u64 {
     let sum = machine::next_sum(store, s);
-    let answer = machine::cycle(store, main, local, s);
+    let answer = machine::cycle(reading, store, main, local, s);
     count(answer, counts);
     count_lamps(word, sum, answer, counts);
+    count_codes(reading, word, answer, counts);
     mix_answer(mix_work(digest, sum), answer, main, local, s)
 }
 
@@ -183,12 +222,14 @@ fn lend(
     local: &mut [u8],
     counts: &mut [u32],
 ) -> u64 {
+    let reading = c.reading;
     put(store, c.state.wx as usize, c.word);
     let words = agree::at_most(c.lent.words, store.len());
     let m = agree::at_most(c.lent.main, main.len());
     let l = agree::at_most(c.lent.local, local.len());
     answered(
         digest,
+        reading,
         c.word,
         &store[0..words],
         &mut main[0..m],
@@ -262,6 +303,25 @@ fn report_rest(counts: &[u32]) {
     agree::print_count(b"digit carry", agree::counted(counts, 110));
     agree::print_count(b"invalid", agree::counted(counts, 111));
     agree::print_count(b"kept out", agree::counted(counts, 112));
+    report_codes(counts);
+}
+
+// The cycles that ran with each of the seven codes.
+fn report_codes(counts: &[u32]) {
+    agree::print_count(b"CH 3 basic", agree::counted(counts, 120));
+    agree::print_count(b"CH 3 compatibility", agree::counted(counts, 121));
+    agree::print_count(b"CH 8 basic", agree::counted(counts, 122));
+    agree::print_count(b"CH 8 compatibility", agree::counted(counts, 123));
+    agree::print_count(b"CL 4 basic", agree::counted(counts, 124));
+    agree::print_count(b"CL 4 compatibility", agree::counted(counts, 125));
+    agree::print_count(b"CL 6 basic", agree::counted(counts, 126));
+    agree::print_count(b"CL 6 compatibility", agree::counted(counts, 127));
+    agree::print_count(b"CL 12 basic", agree::counted(counts, 128));
+    agree::print_count(b"CL 12 compatibility", agree::counted(counts, 129));
+    agree::print_count(b"CS 5 basic", agree::counted(counts, 130));
+    agree::print_count(b"CS 5 compatibility", agree::counted(counts, 131));
+    agree::print_count(b"CS 15 basic", agree::counted(counts, 132));
+    agree::print_count(b"CS 15 compatibility", agree::counted(counts, 133));
 }
 
 fn blocks(store: &mut [u64], main: &mut [u8], local: &mut [u8]) {

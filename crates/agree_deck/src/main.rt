@@ -1,6 +1,6 @@
 // Decks against tests/second: written, damaged in each part, read with rooms too small, exact and larger, and listed.
 ghost use Prim.Native.Nat.{_≤_};
-use deck::Reading;
+use deck::ReadIn;
 use deck::Writing;
 use libc::STDOUT_FILENO;
 use text::Written;
@@ -71,10 +71,12 @@ fn fill_words(x: u64, bad: usize, store: &mut [u64]) -> u64 {
 }
 
 fn store_word(a: u64, b: u64, x: u64, bad: bool, address: u32) -> u64 {
+    let reading = agree::reading_of(b / 0x100_0000_0000);
     if bad {
-        return agree::word_for(a, b, x / 0x1_0000 * 64 + 44 + x / 256 % 20, address);
+        let kind = x / 0x1_0000 * 64 + 44 + x / 256 % 20;
+        return agree::word_for(reading, a, b, kind, address);
     }
-    agree::packed(agree::modelled(a, b), address)
+    agree::packed(agree::modelled(reading, a, b), address)
 }
 
 fn mix_words(digest: u64, words: &[u64]) -> u64 {
@@ -246,13 +248,13 @@ fn mix_written(digest: u64, answer: Writing, deck: &[u8], counts: &mut [u32]) ->
     }
 }
 
-fn mix_read(digest: u64, answer: Reading, words: &[u64], counts: &mut [u32]) -> u64 {
+fn mix_read(digest: u64, answer: ReadIn, words: &[u64], counts: &mut [u32]) -> u64 {
     match answer {
-        Reading::Refused(number) => {
+        ReadIn::Refused(number) => {
             agree::tally(counts, number as usize);
             mix_words(agree::mix(digest, number as u64), words)
         }
-        Reading::Words(n) => {
+        ReadIn::Words(n) => {
             agree::tally(counts, 0);
             mix_words(agree::mix(digest, n as u64), words)
         }

@@ -1,13 +1,17 @@
-// Runs against tests/second: drawn stores, states, sizes and budgets.
+// Runs against tests/second: drawn stores, readings, states, sizes and budgets.
+ghost use Prim.Native.Nat.{_<_};
 use agree::Lent;
+use codes::Reading;
 use libc::STDOUT_FILENO;
 use machine::State;
 use run::Ending;
 use run::Finished;
 
-// A run: the state that it starts from, how much of each storage is lent, its budget, and the rate of
-// words that seldom run.
+// A run: the reading that its words were drawn for and its own, the state that it starts from, how much of each storage is lent,
+// its budget, and the rate of words that seldom run.
 struct Trial {
+    filled: Reading,
+    reading: Reading,
     state: State,
     lent: Lent,
     budget: u32,
@@ -54,7 +58,15 @@ fn drawn_budget(x: u64, seldom: u64) -> u32 {
     ][(x % 16) as usize]
 }
 
+// One run of 8 is under the reading that its words were not drawn for.
+fn crossed(x: u64) -> u64
+    ensures { λ r. ⌜ r < 2 ⌝ }
+{
+    if x % 8 == 0 { 1 } else { 0 }
+}
+
 fn drawn(a: u64, c: u64, e: u64) -> Trial {
+    let which = a / 0x1000_0000_0000;
     let wx = (a / 0x1_0000_0000 % 256) as u16;
     let lent = Lent {
         words: store_size(a / 0x100),
@@ -62,6 +74,8 @@ fn drawn(a: u64, c: u64, e: u64) -> Trial {
         local: 256,
     };
     Trial {
+        filled: agree::reading_of(which),
+        reading: agree::reading_of(which + crossed(a / 0x2000_0000_0000)),
         state: agree::drawn_state(c, e, wx),
         lent: agree::seldom_wrong(a % 256, lent),
         budget: drawn_budget(a / 0x4000, a / 0x100_0000_0000),
@@ -86,6 +100,14 @@ fn field_of(e: Ending) -> u8 {
     }
 }
 
+// Where a run under compatibility is counted: 103; under basic past all counts.
+fn reading_at(reading: Reading) -> usize {
+    match reading {
+        Reading::Basic => 256,
+        Reading::Compatibility => 103,
+    }
+}
+
 // The digest after the ending, the count, the state and all of both storages.
 fn mix_finished(digest: u64, f: Finished, main: &[u8], local: &[u8]) -> u64 {
     let ending = f.ending;
@@ -106,9 +128,11 @@ fn ended(
     t: Trial,
     counts: &mut [u32],
 ) -> Going {
-    let f = run::run(store, main, local, t.state, t.budget);
+    let reading = t.reading;
+    let f = run::run(reading, store, main, local, t.state, t.budget);
     let ending = f.ending;
     agree::tally(counts, number_of(ending) as usize);
+    agree::tally(counts, reading_at(reading));
     Going {
         x: g.x,
         digest: mix_finished(g.digest, f, main, local),
@@ -149,7 +173,8 @@ fn case(
     let c = agree::next(a);
     let e = agree::next(c);
     let t = drawn(a, c, e);
-    let x = agree::fill_store(e, t.rate, store);
+    let filled = t.filled;
+    let x = agree::fill_store(filled, e, t.rate, store);
     let done = lend(t, g, store, main, local, counts);
     Going { x: x, ..done }
 }
@@ -167,11 +192,15 @@ fn runs(store: &mut [u64], main: &mut [u8], local: &mut [u8]) {
             agree::print_digest(k as u64 + 1, g.digest);
         }
     }
-    report(&counts);
-    agree::print_count(b"cycles", g.cycles);
+    report(&counts, g.cycles);
 }
 
-fn report(counts: &[u32]) {
+fn report_rest(counts: &[u32], cycles: u64) {
+    agree::print_count(b"cycles", cycles);
+    agree::print_count(b"compatibility", agree::counted(counts, 103));
+}
+
+fn report(counts: &[u32], cycles: u64) {
     agree::print_count(b"stopped", agree::counted(counts, 101));
     agree::print_count(b"spent", agree::counted(counts, 102));
     for k in 1..12usize {
@@ -180,6 +209,7 @@ fn report(counts: &[u32]) {
         agree::print_count(b"", agree::counted(counts, k));
     }
     agree::print_count(b"refused 22", agree::counted(counts, 22));
+    report_rest(counts, cycles);
 }
 
 fn main() {

@@ -1,4 +1,5 @@
 // Traps and returns against tests/second: calls alone, return words beside every CM, CH and CL, and runs that traps break into.
+use codes::Reading;
 use libc::STDOUT_FILENO;
 use machine::Cycled;
 use machine::State;
@@ -140,7 +141,7 @@ fn cycled(g: Going, c: Cycled, counts: &mut [u32]) -> Going {
     }
 }
 
-// The word of CM, CH, CL and the latch that `k` counts through, the latch fastest.
+// The word of CM, CH, CL and the latch that `k` counts through, the latch fastest, and the reading slowest.
 fn return_case(
     g: Going,
     k: u32,
@@ -158,13 +159,14 @@ fn return_case(
     let cm = (k / 512 % 3) as u8;
     let ch = (k / 32 % 16) as u8;
     let cl = (k / 2 % 16) as u8;
-    let word = return_word(agree::modelled(a, b), cm, ch, cl, wx as u32);
+    let reading = agree::reading_of((k / 1536) as u64);
+    let word = return_word(agree::modelled(reading, a, b), cm, ch, cl, wx as u32);
     put(store, wx as usize, word);
     let state = State {
         owed: k % 2 == 1,
         ..agree::drawn_state(c, e, wx)
     };
-    let answer = machine::cycle(store, main, local, state);
+    let answer = machine::cycle(reading, store, main, local, state);
     cycled(
         Going {
             x: f,
@@ -254,8 +256,9 @@ fn trap_address(y: u64) -> u32 {
     (y / 16 % 4096) as u32
 }
 
-// A run's state, and what goes on beside it.
+// A run's reading and state, and what goes on beside it.
 struct Broken {
+    reading: Reading,
     going: Going,
     state: State,
 }
@@ -269,15 +272,17 @@ fn piece(
     counts: &mut [u32],
 ) -> Broken {
     let going = p.going;
+    let reading = p.reading;
     let state = p.state;
     let x = agree::next(going.x);
-    let f = run::run(store, main, local, state, (x % 64) as u32);
+    let f = run::run(reading, store, main, local, state, (x % 64) as u32);
     count_run(state.owed, f, counts);
     let d = mix_finished(going.digest, f);
     let answer = trap::trap(f.state, trap_address(x / 64));
     let number = number_of(answer);
     agree::tally(counts, number as usize);
     Broken {
+        reading: reading,
         going: Going {
             x: x,
             digest: agree::mix(d, number as u64),
@@ -314,8 +319,10 @@ fn broken_run(
         owed: false,
         ..agree::drawn_state(c, e, (a / 0x1_0000_0000 % 256) as u16)
     };
-    let x = agree::fill_store(e, agree::drawn_rate(a / 0x4_0000), store);
+    let reading = agree::reading_of(a / 0x1000_0000_0000);
+    let x = agree::fill_store(reading, e, agree::drawn_rate(a / 0x4_0000), store);
     let begun = Broken {
+        reading: reading,
         going: Going {
             x: x,
             digest: g.digest,

@@ -62,7 +62,13 @@ fn drawn_word(a: u64, b: u64, x: u64, address: u32) -> u64 {
     if x % 16 == 0 {
         return a;
     }
-    agree::word_for(a, b, x / 16, address % 4096)
+    agree::word_for(
+        agree::reading_of(b / 0x100_0000_0000),
+        a,
+        b,
+        x / 16,
+        address % 4096,
+    )
 }
 
 // A word taken apart, and its fault at an address of any size.

@@ -14,10 +14,10 @@ use Rattle.machine.specs.Sources.{entered, sumIn}
 use Rattle.machine.specs.Branch.{nextOf}
 use Rattle.machine.specs.Storage.{accessOf}
 use Rattle.machine.specs.Status.{statusOf}
-use Rattle.machine.specs.Modelled.{unmodelledOf}
+use Rattle.codes.specs.Modelled.{unmodelledOf}
 use Rattle.machine.specs.declared.State.{State}
 use Rattle.run.proofs.Goes.{machine, Halts, Right}
-use Rattle.decimal.proofs.Steps.{addresses, idle, run, stop}
+use Rattle.decimal.proofs.Steps.{addresses, basic, idle, run, stop}
 use Rattle.decimal.proofs.Places.{branch, fork, Marks, marked, marks, carries, view, at, ended, Block, look, saved, marks-6, marks-7}
 use Rattle.decimal.proofs.Pairs.{lowSum, highSum, up, along, held, address, within, copied, one-more}
 use Rattle.apsp.specs.Program.{signedProgram, signedWords}
@@ -163,7 +163,7 @@ module _ (local main : List ℕ) (fits : length main ≤ 65536) (a b l t : ℕ) 
         known = bit-with (x .s) 3 true;
       }))
 
-pub stop-33 : (local main : List ℕ) (x : State) → Right signedWords (machine x main local) → Halts signedWords (machine (idle DONE x) main local)
+pub stop-33 : (local main : List ℕ) (x : State) → Right signedWords (machine x main local) → Halts (basic signedWords) (machine (idle DONE x) main local)
 stop-33 local main x right = stop signedWords signedProgram (addresses signedProgram) own DONE tt (machine (idle DONE x) main local) right refl
 
 -- ---- to complement again

@@ -17,7 +17,7 @@ use Rattle.machine.specs.Sources.{entered, sumIn}
 use Rattle.machine.specs.Branch.{nextOf}
 use Rattle.machine.specs.Storage.{accessOf}
 use Rattle.machine.specs.Status.{statusOf}
-use Rattle.machine.specs.Modelled.{unmodelledOf}
+use Rattle.codes.specs.Modelled.{unmodelledOf}
 use Rattle.run.proofs.Goes.{machine, Right}
 use Rattle.decimal.proofs.Steps.{run, back}
 use Rattle.decimal.proofs.Places.{branch, Marks, marked, marks, carries, view, at, atWith, inR, Reaches, Block, look, mark, marks-with, saved, marks-4, marks-6, marks-7}

@@ -4,12 +4,16 @@ use mathlib.Core.Path.{_≡_, refl}
 use mathlib.Core.List.{List, [], _∷_}
 use mathlib.Core.Bool.{Bool, true, false}
 use denote.Ref.{now}
+use lib.Count.{ones}
 use lib.IntN.{ℤ, pos, negsuc}
 use Rattle.digits.proofs.Sole.{sole}
+use Rattle.word.specs.Word.{packed, inWidth}
+use Rattle.codes.specs.Seven.{usesNone}
 use Rattle.machine.specs.Cycle.{outcome}
 use Rattle.machine.specs.declared.State.{State}
 use Rattle.decimal.specs.declared.Added.{Added}
 use Rattle.apsp.specs.Numbers.{exact, overflows, fieldOf}
+use Rattle.apsp.specs.Program.{signedWords}
 use Rattle.apsp.specs.Promise.{signedCycles}
 use Rattle.apsp.proofs.words.Reads as words
 use Rattle.apsp.proofs.start.Reads as start
@@ -58,3 +62,9 @@ pub worked-examples :
     ∷ worked (negsuc 3) false (0x4D ∷ []) 48
     ∷ []
 worked-examples = refl
+
+-- ---- the words of AP and SP use none of the seven codes of request 7 either
+
+pub signed-uses-none : usesNone signedWords ≡ true
+unfolding packed inWidth ones signedWords
+signed-uses-none = refl

@@ -5,6 +5,7 @@ use mathlib.Core.Bool.{Bool}
 use Rattle.digits.specs.Bits.{withBit}
 use Rattle.machine.specs.Cycle.{Outcome}
 use Rattle.machine.specs.declared.State.{State}
+use Rattle.codes.specs.declared.Reading.the-variants.{Basic}
 use Rattle.run.specs.Run.{runOf}
 use Rattle.run.specs.declared.Finished.{Finished}
 use Rattle.decimal.specs.Entry.{startWith, bound, entryOf}
@@ -16,7 +17,7 @@ abbrev pub signedStart : ℕ → ℕ → ℕ → Bool → State
 signedStart a b n subtract = startWith a b n (withBit 0 0 subtract)
 
 abbrev pub signedRun : List ℕ → List ℕ → ℕ → ℕ → ℕ → Bool → Outcome Finished
-signedRun main local a b n subtract = runOf (bound n) signedWords main local (signedStart a b n subtract)
+signedRun main local a b n subtract = runOf (bound n) Basic signedWords main local (signedStart a b n subtract)
 
 -- the stop for done: "S3 tells overflow"
 abbrev pub DONE : ℕ

@@ -4,7 +4,7 @@ use mathlib.Core.List.{[], _∷_, map}
 use lib.IntN.{pos, negsuc}
 use lib.ListN.{replicate}
 use Rattle.text.specs.Ascii.{ascii}
-use Rattle.arguments.specs.Arguments.{digitValue, numberOf, wholeIn, wholeOf, capitalOf, placeOf, byteForm, addressForm, limitForm, trapForm, givenOf, digitFromLast, laid}
+use Rattle.arguments.specs.Arguments.{digitValue, numberOf, wholeIn, wholeOf, capitalOf, placeOf, byteForm, addressForm, limitForm, trapForm, readingForm, readingGiven, givenOf, digitFromLast, laid}
 use Rattle.arguments.specs.declared.Number.the-variants as N
 use Rattle.arguments.specs.declared.Whole.the-variants as W
 use Rattle.arguments.specs.declared.Given.the-variants as G
@@ -50,7 +50,7 @@ unfolding givenOf byteForm addressForm limitForm placeOf capitalOf digitValue
 to-20 = refl
 
 three-digits : givenOf (ascii "U=123") ≡ G.Wrong
-unfolding givenOf byteForm addressForm limitForm trapForm placeOf capitalOf digitValue
+unfolding givenOf byteForm addressForm limitForm trapForm readingForm readingGiven placeOf capitalOf digitValue
 three-digits = refl
 
 trap-at-12 : givenOf (ascii "trap=12:0a0") ≡ G.Trap 12 160
@@ -59,8 +59,12 @@ trap-at-12 = refl
 
 -- a cycle 0 or over a million, none, no address, and one of five digits
 no-traps : map (λ text. givenOf (ascii text)) ("TRAP=0:0A0" ∷ "TRAP=1000001:0" ∷ "TRAP=:0A0" ∷ "TRAP=5:" ∷ "TRAP=5:12345" ∷ []) ≡ replicate 5 G.Wrong
-unfolding givenOf byteForm addressForm limitForm trapForm placeOf capitalOf digitValue
+unfolding givenOf byteForm addressForm limitForm trapForm readingForm readingGiven placeOf capitalOf digitValue
 no-traps = refl
+
+readings : map (λ text. givenOf (ascii text)) ("READING=B" ∷ "reading=c" ∷ "READING=" ∷ "READING=BC" ∷ "READING=X" ∷ []) ≡ G.Basic ∷ G.Compatibility ∷ replicate 3 G.Wrong
+unfolding givenOf byteForm addressForm limitForm trapForm readingForm readingGiven placeOf capitalOf digitValue
+readings = refl
 
 five-in-three : laid 3 (ascii "12345") ≡ 1 ∷ 35 ∷ 69 ∷ []
 unfolding digitFromLast digitValue

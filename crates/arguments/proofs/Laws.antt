@@ -13,7 +13,7 @@ use lib.Pow.{pow-add, pow-mono}
 use lib.Seq.{drop-cons, drop-drop, getD-drop, getD-set-same, drop-set-lt}
 use Rattle.digits.proofs.Truth.{both}
 use Rattle.text.specs.Ascii.{ascii}
-use Rattle.arguments.specs.Arguments.{between, digitValue, allDigits, digitsFit, valueFrom, numberFits, capitalOf, names, placeIn, placeOf, byteForm, addressForm, limitForm, cycleFits, trapCycle, trapAddress, trapForm, givenOf, digitFromLast, laid}
+use Rattle.arguments.specs.Arguments.{between, digitValue, allDigits, digitsFit, valueFrom, numberFits, capitalOf, names, placeIn, placeOf, byteForm, addressForm, limitForm, cycleFits, trapCycle, trapAddress, trapForm, readingGiven, givenOf, digitFromLast, laid}
 use Rattle.arguments.specs.declared.Given.the-variants as G
 
 pub inside : (low high c : ℕ) → between low high c ≡ true → (low ≤ c) × (c ≤ high)
@@ -139,9 +139,9 @@ module _ (text : List ℕ) where
   unfolding givenOf
   gives-trap a b c d e = rw (a, b, c, d, e)
 
-  pub gives-none : byteForm text ≡ false → addressForm text ≡ false → limitForm (ascii "FROM") text ≡ false → limitForm (ascii "TO") text ≡ false → trapForm text ≡ false → givenOf text ≡ G.Wrong
+  pub gives-reading : byteForm text ≡ false → addressForm text ≡ false → limitForm (ascii "FROM") text ≡ false → limitForm (ascii "TO") text ≡ false → trapForm text ≡ false → givenOf text ≡ readingGiven text
   unfolding givenOf
-  gives-none a b c d e = rw (a, b, c, d, e)
+  gives-reading a b c d e = rw (a, b, c, d, e)
 
 -- ---- a field
 

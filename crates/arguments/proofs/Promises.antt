@@ -1,6 +1,6 @@
 -- Exactly when a text is wrong, and that no second answer fits. Assumes nothing.
 use Prim.Native.Nat.{ℕ, _<_}
-use mathlib.Core.Path.{_≡_, refl}
+use mathlib.Core.Path.{_≡_, refl, _∙_}
 use mathlib.Core.List.{List}
 use mathlib.Core.Bool.{Bool, true, false}
 use mathlib.Core.Logic.{_⊎_, inl, inr, _↔_}
@@ -11,12 +11,12 @@ use Rattle.digits.proofs.Sole.{sole}
 use Rattle.digits.proofs.Truth.{zero-one}
 use Rattle.text.specs.Ascii.{ascii}
 use Rattle.machine.specs.declared.State.{State}
-use Rattle.arguments.specs.Arguments.{digitsFit, valueFrom, numberOf, byteForm, addressForm, limitForm, trapForm, givenOf}
+use Rattle.arguments.specs.Arguments.{digitsFit, valueFrom, numberOf, byteForm, addressForm, limitForm, trapForm, readingForm, readingGiven, givenOf}
 use Rattle.arguments.specs.declared.Number.{Number}
 use Rattle.arguments.specs.declared.Number.the-variants as N
 use Rattle.arguments.specs.declared.Given.{Given}
 use Rattle.arguments.specs.declared.Given.the-variants as G
-use Rattle.arguments.proofs.Laws.{gives-byte, gives-address, gives-from, gives-to, gives-trap, gives-none}
+use Rattle.arguments.proofs.Laws.{gives-byte, gives-address, gives-from, gives-to, gives-trap, gives-reading}
 use Rattle.arguments.specs.declared.Whole.{Whole}
 use Rattle.arguments.proofs.wholes.whole_of.Reads as whole-of
 use Rattle.arguments.proofs.numbers.number_of.Reads as number-of
@@ -45,18 +45,29 @@ number-wrong text = (to (digitsFit 10 7 text) (leb (valueFrom 10 0 text) 1000000
         by true p = rw (p, lt-leb (valueFrom 10 0 text) 1000000 h)
         by false p = rw p
 
--- an argument is wrong where it has none of the five forms
-pub given-wrong : (text : List ℕ) → (givenOf text ≡ G.Wrong) ↔ ((byteForm text ≡ false) × (addressForm text ≡ false) × (limitForm (ascii "FROM") text ≡ false) × (limitForm (ascii "TO") text ≡ false) × (trapForm text ≡ false))
-given-wrong text = (to (byteForm text) (addressForm text) (limitForm (ascii "FROM") text) (limitForm (ascii "TO") text) (trapForm text) refl refl refl refl refl, λ (a, b, c, d, e). gives-none text a b c d e)
+-- an argument is wrong where it has none of the forms
+abbrev NoForm : List ℕ → Type 0
+NoForm text =
+    (byteForm text ≡ false) × (addressForm text ≡ false) × (limitForm (ascii "FROM") text ≡ false) × (limitForm (ascii "TO") text ≡ false) × (trapForm text ≡ false)
+    × (readingForm 66 text ≡ false) × (readingForm 67 text ≡ false)
+
+pub given-wrong : (text : List ℕ) → (givenOf text ≡ G.Wrong) ↔ NoForm text
+unfolding readingGiven
+given-wrong text = (
+  to (byteForm text) (addressForm text) (limitForm (ascii "FROM") text) (limitForm (ascii "TO") text) (trapForm text) (readingForm 66 text) (readingForm 67 text) refl refl refl refl refl refl refl,
+  λ (a, b, c, d, e, f, g). gives-reading text a b c d e ∙ rw (f, g),
+)
   where
-    to : (a b c d e : Bool) → byteForm text ≡ a → addressForm text ≡ b → limitForm (ascii "FROM") text ≡ c → limitForm (ascii "TO") text ≡ d → trapForm text ≡ e → givenOf text ≡ G.Wrong
-        → (byteForm text ≡ false) × (addressForm text ≡ false) × (limitForm (ascii "FROM") text ≡ false) × (limitForm (ascii "TO") text ≡ false) × (trapForm text ≡ false)
-    to true b c d e p q r s t w = let is = gives-byte text p in absurd (zero-one cc)
-    to false true c d e p q r s t w = let is = gives-address text p q in absurd (zero-one cc)
-    to false false true d e p q r s t w = let is = gives-from text p q r in absurd (zero-one cc)
-    to false false false true e p q r s t w = let is = gives-to text p q r s in absurd (zero-one cc)
-    to false false false false true p q r s t w = let is = gives-trap text p q r s t in absurd (zero-one cc)
-    to false false false false false p q r s t w = (p, q, r, s, t)
+    to : (a b c d e f g : Bool) → byteForm text ≡ a → addressForm text ≡ b → limitForm (ascii "FROM") text ≡ c → limitForm (ascii "TO") text ≡ d → trapForm text ≡ e
+        → readingForm 66 text ≡ f → readingForm 67 text ≡ g → givenOf text ≡ G.Wrong → NoForm text
+    to true b c d e f g p q r s t u v w = let is = gives-byte text p in absurd (zero-one cc)
+    to false true c d e f g p q r s t u v w = let is = gives-address text p q in absurd (zero-one cc)
+    to false false true d e f g p q r s t u v w = let is = gives-from text p q r in absurd (zero-one cc)
+    to false false false true e f g p q r s t u v w = let is = gives-to text p q r s in absurd (zero-one cc)
+    to false false false false true f g p q r s t u v w = let is = gives-trap text p q r s t in absurd (zero-one cc)
+    to false false false false false true g p q r s t u v w = let is : readingGiven text ≡ G.Basic = rw u in let same = gives-reading text p q r s t in absurd (zero-one cc)
+    to false false false false false false true p q r s t u v w = let is : readingGiven text ≡ G.Compatibility = rw (u, v) in let same = gives-reading text p q r s t in absurd (zero-one cc)
+    to false false false false false false false p q r s t u v w = (p, q, r, s, t, u, v)
 
 -- ---- no second answer fits: two results that meet one contract at the same arguments are the same, with what stands in the field lent
 

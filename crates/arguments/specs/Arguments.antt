@@ -1,4 +1,4 @@
--- What stands on the board's command line: numbers, registers with their values, traps, and the cycles to show. Assumes nothing.
+-- What stands on the board's command line: numbers, registers with their values, traps, a reading, and the cycles to show. Assumes nothing.
 use Prim.Native.Nat.{ℕ, zero, suc, _+_, _-_, _*_, _/_, _%_}
 use mathlib.Core.List.{List, [], _∷_}
 use mathlib.Core.Bool.{Bool, true, false, cond, _&&_, _||_}
@@ -112,6 +112,14 @@ trapAddress text = drop (placeIn 58 (drop 5 text) + 1) (drop 5 text)
 unfoldable pub trapForm : List ℕ → Bool
 trapForm text = names (ascii "TRAP") text && (cycleFits (trapCycle text) && digitsFit 16 4 (trapAddress text))
 
+-- the reading: "READING=" and one letter
+unfoldable pub readingForm : ℕ → List ℕ → Bool
+readingForm letter text = names (ascii "READING") text && (eqb (length text) 9 && eqb (capitalOf (getD text 8 0)) letter)
+
+-- 'B' is basic, 'C' compatibility
+unfoldable pub readingGiven : List ℕ → Given
+readingGiven text = cond (readingForm 66 text) G.Basic (cond (readingForm 67 text) G.Compatibility G.Wrong)
+
 -- what an argument gives
 unfoldable pub givenOf : List ℕ → Given
 givenOf text =
@@ -119,7 +127,7 @@ givenOf text =
     (cond (addressForm text) (G.Register 13 (valueFrom 16 0 (drop 3 text)))
     (cond (limitForm (ascii "FROM") text) (G.From (valueFrom 10 0 (drop 5 text)))
     (cond (limitForm (ascii "TO") text) (G.To (valueFrom 10 0 (drop 3 text)))
-    (cond (trapForm text) (G.Trap (valueFrom 10 0 (trapCycle text)) (valueFrom 16 0 (trapAddress text))) G.Wrong))))
+    (cond (trapForm text) (G.Trap (valueFrom 10 0 (trapCycle text)) (valueFrom 16 0 (trapAddress text))) (readingGiven text)))))
 
 -- ---- a register's value in a state
 

@@ -2,7 +2,7 @@
 ghost use mathlib.Core.Path.{_≡_};
 ghost use Prim.Native.Nat.{_≤_};
 ghost use lib.ListN.{length, drop};
-ghost use Rattle.arguments.specs.Arguments.{capitalOf, names, placeIn, placeOf, byteForm, addressForm, limitForm, cycleFits, trapCycle, trapAddress, trapForm, givenOf};
+ghost use Rattle.arguments.specs.Arguments.{capitalOf, names, placeIn, placeOf, byteForm, addressForm, limitForm, cycleFits, trapCycle, trapAddress, trapForm, readingForm, readingGiven, givenOf};
 use crate::Given;
 use crate::numbers::between;
 use crate::numbers::digits_fit;
@@ -112,6 +112,25 @@ fn trap_form(text: &[u8]) -> bool
     names(b"TRAP", text) & (cycle_fits(trap_cycle(text)) & digits_fit(16, 4, trap_address(text)))
 }
 
+fn reading_form(letter: u8, text: &[u8]) -> bool
+    ensures { λ r. ⌜ r ≡ readingForm letter (now (text .entry)) ⌝ }
+{
+    names(b"READING", text) & ((text.len() == 9) & (capital(byte_at(text, 8)) == letter))
+}
+
+// How the deck is read, or none of the forms.
+fn reading_given(text: &[u8]) -> Given
+    ensures { λ r. ⌜ r ≡ readingGiven (now (text .entry)) ⌝ }
+{
+    if reading_form(b'B', text) {
+        return Given::Basic;
+    }
+    if reading_form(b'C', text) {
+        return Given::Compatibility;
+    }
+    Given::Wrong
+}
+
 // What an argument gives.
 pub fn given_of(text: &[u8]) -> Given
     ensures { λ r. ⌜ r ≡ givenOf (now (text .entry)) ⌝ }
@@ -131,5 +150,5 @@ pub fn given_of(text: &[u8]) -> Given
     if trap_form(text) {
         return Given::Trap(value(10, trap_cycle(text)), value(16, trap_address(text)));
     }
-    Given::Wrong
+    reading_given(text)
 }

@@ -1,4 +1,4 @@
-// What stands on the board's command line: numbers, registers with their values, traps, and the cycles to show.
+// What stands on the board's command line: numbers, registers with their values, traps, a reading, and the cycles to show.
 mod fields;
 mod forms;
 mod numbers;
@@ -18,12 +18,15 @@ pub enum Number {
     Wrong,
 }
 
-// A register by its place with its value, the first or the last cycle to show, a trap's cycle and address, or none of them.
+// A register by its place with its value, the first or the last cycle to show, a trap's cycle and address, how the deck is read, or
+// none of them.
 pub enum Given {
     Register(u8, u16),
     From(u32),
     To(u32),
     Trap(u32, u32),
+    Basic,
+    Compatibility,
     Wrong,
 }
 

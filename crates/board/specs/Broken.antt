@@ -3,6 +3,7 @@ use Prim.Native.Nat.{ℕ, _-_}
 use mathlib.Core.Path.{_≡_}
 use mathlib.Core.List.{List, [], _∷_}
 use mathlib.Core.Bool.{Bool, true, false, cond}
+use Rattle.codes.specs.declared.Reading.{Reading}
 use Rattle.machine.specs.Cycle.{Outcome}
 use Rattle.machine.specs.declared.State.{State}
 use Rattle.run.specs.Run.{runOf}
@@ -30,12 +31,12 @@ onTrap address rest o = cond (isSpent (o .answer .ending)) (rest (o .main) (o .l
 
 -- a run with traps, each after so many cycles more, to an address; what is left of the budget runs after the last. The count is the last
 -- piece's.
-unfoldable pub brokenOf : List (ℕ × ℕ) → ℕ → List ℕ → List ℕ → List ℕ → State → Outcome Finished
-brokenOf [] budget store main local s = runOf budget store main local s
-brokenOf ((cycles, address) ∷ traps) budget store main local s =
-    onTrap address (brokenOf traps (budget - cycles) store) (runOf cycles store main local s)
+unfoldable pub brokenOf : List (ℕ × ℕ) → ℕ → Reading → List ℕ → List ℕ → List ℕ → State → Outcome Finished
+brokenOf [] budget reading store main local s = runOf budget reading store main local s
+brokenOf ((cycles, address) ∷ traps) budget reading store main local s =
+    onTrap address (brokenOf traps (budget - cycles) reading store) (runOf cycles reading store main local s)
 
 -- some traps broke into the run; which, the command line says
-pub record BrokenInto (budget : ℕ) (store main local : List ℕ) (s : State) (o : Outcome Finished) : Type 0 where
+pub record BrokenInto (budget : ℕ) (reading : Reading) (store main local : List ℕ) (s : State) (o : Outcome Finished) : Type 0 where
   pub traps : List (ℕ × ℕ)
-  pub run : o ≡ brokenOf traps budget store main local s
+  pub run : o ≡ brokenOf traps budget reading store main local s

@@ -4,6 +4,7 @@ ghost use mathlib.Core.Bool.{true};
 ghost use Prim.Native.Nat.{_<_, _≤_, max};
 ghost use lib.ListN.{length, take};
 ghost use Rattle.machine.specs.Cycle.{outcome};
+ghost use Rattle.codes.specs.declared.Reading.the-variants.{Basic};
 ghost use Rattle.run.specs.Run.{runOf};
 ghost use Rattle.arguments.specs.Arguments.{digitsFit};
 ghost use Rattle.decimal.specs.Entry.{bound, fromRun};
@@ -17,6 +18,7 @@ use crate::options::Takes;
 use crate::out;
 use crate::out::Out;
 use crate::tell;
+use codes::Reading;
 use decimal::Added;
 use machine::State;
 use text::Written;
@@ -79,11 +81,22 @@ fn answered(
     room: &mut [u8],
 ) -> Sum
     requires { ⌜ size ≤ 16 ⌝ }
-    ensures { λ r. ⌜ outcome (r .added) (now (main .exit)) (now (local .exit)) ≡ fromRun done (runOf (bound size) (now (store .entry)) (now (main .entry)) (now (local .entry)) start) ⌝ }
+    ensures { λ r. ⌜ outcome (r .added) (now (main .exit)) (now (local .exit)) ≡ fromRun done (runOf (bound size) Basic (now (store .entry)) (now (main .entry)) (now (local .entry)) start) ⌝ }
 {
     let budget = 40 * (size as u32) + 40;
     let out = go::begin(view, start, room);
-    let went = go::go(view, 0, store, main, local, start, budget, out, room);
+    let went = go::go(
+        view,
+        0,
+        Reading::Basic,
+        store,
+        main,
+        local,
+        start,
+        budget,
+        out,
+        room,
+    );
     let out = go::end(went.finished, went.out, room);
     Sum {
         added: decimal::answered_at(went.finished, done),

@@ -1,11 +1,12 @@
 // Cycles one at a time, each shown: they are the run.
 ghost use mathlib.Core.Path.{_≡_};
 ghost use Prim.Native.Nat.{_+_, _^_, _<_};
-ghost use Rattle.machine.specs.Cycle.{outcome};
+ghost use Rattle.machine.specs.Cycle.{outcome, cycleOf};
 ghost use Rattle.run.specs.Run.{cyclesOf, runOf};
 use crate::out;
 use crate::out::Out;
 use crate::tell;
+use codes::Reading;
 use machine::Cycled;
 use machine::NextSum;
 use machine::State;
@@ -110,6 +111,7 @@ fn ended(ending: Ending, state: State, count: u32, out: Out) -> Went
 fn cycles(
     view: View,
     before: u32,
+    reading: Reading,
     store: &[u64],
     main: &mut [u8],
     local: &mut [u8],
@@ -119,7 +121,7 @@ fn cycles(
     room: &mut [u8],
 ) -> Went
     requires { ⌜ before + budget < 2 ^ 32 ⌝ }
-    ensures { λ r. ⌜ outcome (r .finished) (now (main .exit)) (now (local .exit)) ≡ cyclesOf budget (now (store .entry)) (now (main .entry)) (now (local .entry)) state 0 ⌝ }
+    ensures { λ r. ⌜ outcome (r .finished) (now (main .exit)) (now (local .exit)) ≡ cyclesOf budget (cycleOf reading (now (store .entry))) (now (main .entry)) (now (local .entry)) state 0 ⌝ }
 {
     let mut now = state;
     let mut done: u32 = 0;
@@ -129,7 +131,7 @@ fn cycles(
             break ended(Ending::Spent, now, done, out);
         }
         let sum = work(view, before + done + 1, store, now);
-        match machine::cycle(store, main, local, now) {
+        match machine::cycle(reading, store, main, local, now) {
             Cycled::Ran(next) => {
                 done = done + 1;
                 out = show(view, before + done, now.wx, next, sum, out, room);
@@ -149,6 +151,7 @@ fn cycles(
 pub fn go(
     view: View,
     before: u32,
+    reading: Reading,
     store: &[u64],
     main: &mut [u8],
     local: &mut [u8],
@@ -158,11 +161,22 @@ pub fn go(
     room: &mut [u8],
 ) -> Went
     requires { ⌜ before + budget < 2 ^ 32 ⌝ }
-    ensures { λ r. ⌜ outcome (r .finished) (now (main .exit)) (now (local .exit)) ≡ runOf budget (now (store .entry)) (now (main .entry)) (now (local .entry)) state ⌝ }
+    ensures { λ r. ⌜ outcome (r .finished) (now (main .exit)) (now (local .exit)) ≡ runOf budget reading (now (store .entry)) (now (main .entry)) (now (local .entry)) state ⌝ }
 {
     let number = run::refusal(store.len(), main.len(), local.len(), budget);
     if number != 0 {
         return ended(Ending::Refused(number, 0), state, 0, out);
     }
-    cycles(view, before, store, main, local, state, budget, out, room)
+    cycles(
+        view,
+        before,
+        reading,
+        store,
+        main,
+        local,
+        state,
+        budget,
+        out,
+        room,
+    )
 }

@@ -19,7 +19,7 @@ fn usage() {
 board ap FIRST SECOND [FROM=n] [TO=n]
 board sp FIRST SECOND [FROM=n] [TO=n]
     adds or subtracts two numbers of 1 to 31 digits with signs, by the program of AP and SP: + or - before or after the digits, or : and a sign digit after them, as 190:F
-board run DECK MAIN CYCLES [I=HH ..] [TRAP=n:HHH ..] [FROM=n] [TO=n]
+board run DECK MAIN CYCLES [I=HH ..] [TRAP=n:HHH ..] [READING=B|C] [FROM=n] [TO=n]
     runs a deck over a storage image for at most so many cycles, from the registers given: I J U V L T D R S G H M N=HH, WX=HHH
     TRAP=n:HHH traps to that address before cycle n
 board lamps add .. | board lamps ap .. | board lamps sp .. | board lamps run ..
@@ -29,6 +29,7 @@ board walk
 board signed FIELD | board signed NUMBER
     the number of a field of 16 digits, the last of them its sign; or the field of a number of at most fifteen digits
 FROM=n and TO=n show only those cycles; cycle 0 is the state before the first. Letters may be small.
+READING=C reads the deck as the compatibility store: CH 8 is R2, CL 4 G1, CL 6 R1, CL 12 R3, CS 5 turns S1 on, CS 15 turns S1 off, CH 3 is not modelled; READING=B is basic, and so is a run without it
 ",
     );
     if !written {

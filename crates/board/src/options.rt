@@ -1,12 +1,14 @@
-// What may follow a command's own arguments: registers, traps, and which cycles are shown.
+// What may follow a command's own arguments: registers, traps, a reading, and which cycles are shown.
 ghost use Prim.Native.Nat.{_≤_};
 use crate::tell;
 use crate::traps;
 use arguments::Given;
+use codes::Reading;
 use machine::State;
 
 pub struct Options {
     pub state: State,
+    pub reading: Reading,
     pub from: u32,
     pub to: u32,
 }
@@ -16,7 +18,7 @@ pub enum Asked {
     Wrong,
 }
 
-// What a command takes beside the cycles to show: registers and traps, a carry before them, or nothing.
+// What a command takes beside the cycles to show: registers, traps and a reading, a carry before them, or nothing.
 pub enum Takes {
     Registers,
     Carry,
@@ -30,10 +32,11 @@ pub(crate) fn first_at(lamps: bool) -> usize
     if lamps { 3 } else { 2 }
 }
 
-// All registers 0, all latches off, and every cycle shown.
+// All registers 0, all latches off, the basic reading, and every cycle shown.
 fn none() -> Options {
     Options {
         state: channels::loaded(&[0]),
+        reading: Reading::Basic,
         from: 0,
         to: 1000000,
     }
@@ -62,7 +65,7 @@ fn wrong(at: usize, takes: Takes) -> Asked {
     match takes {
         Takes::Registers => tell::wrong(
             at,
-            b"is neither a register and its value, as I=HH or WX=HHH, nor TRAP=CYCLE:HHH, nor FROM=n nor TO=n",
+            b"is neither a register and its value, as I=HH or WX=HHH, nor TRAP=CYCLE:HHH, nor READING=B or READING=C, nor FROM=n nor TO=n",
         ),
         Takes::Carry => tell::wrong(
             at,
@@ -94,6 +97,21 @@ fn trap(at: usize, first: usize, o: Options, takes: Takes) -> Asked {
     Asked::Options(o)
 }
 
+fn read_as(at: usize, o: Options, takes: Takes, reading: Reading, seen: &mut [u8]) -> Asked {
+    let Takes::Registers = takes else {
+        return wrong(at, takes);
+    };
+    once(
+        at,
+        16,
+        seen,
+        Options {
+            reading: reading,
+            ..o
+        },
+    )
+}
+
 // One argument more.
 fn option(at: usize, first: usize, o: Options, takes: Takes, seen: &mut [u8]) -> Asked {
     let mut text = [0u8; 24];
@@ -103,6 +121,8 @@ fn option(at: usize, first: usize, o: Options, takes: Takes, seen: &mut [u8]) ->
         Given::From(cycle) => once(at, 14, seen, Options { from: cycle, ..o }),
         Given::To(cycle) => once(at, 15, seen, Options { to: cycle, ..o }),
         Given::Trap(_, _) => trap(at, first, o, takes),
+        Given::Basic => read_as(at, o, takes, Reading::Basic, seen),
+        Given::Compatibility => read_as(at, o, takes, Reading::Compatibility, seen),
         Given::Wrong => wrong(at, takes),
     }
 }
@@ -110,7 +130,7 @@ fn option(at: usize, first: usize, o: Options, takes: Takes, seen: &mut [u8]) ->
 // All arguments from `first` on; a wrong one is told.
 pub fn read(first: usize, takes: Takes) -> Asked {
     let count = os::arg_count();
-    let mut seen = [0u8; 16];
+    let mut seen = [0u8; 17];
     let mut o = none();
     let mut at = first;
     while at < count {

@@ -1,4 +1,4 @@
-// board run: a deck over a storage image, from registers and with traps that the command line gives.
+// board run: a deck over a storage image, from registers, under a reading and with traps that the command line gives.
 ghost use Prim.Native.Nat.{_≤_};
 ghost use lib.ListN.{length};
 ghost use Rattle.input.specs.Inside.{Inside};
@@ -11,7 +11,7 @@ use crate::out;
 use crate::tell;
 use crate::traps;
 use arguments::Number;
-use deck::Reading;
+use deck::ReadIn;
 use input::Input;
 
 fn read_from(fd: i32, room: &mut [u8]) -> Input
@@ -48,11 +48,13 @@ fn over(lamps: bool, words: &[u64], main: &mut [u8], budget: u32, first: usize) 
         from: o.from,
         to: o.to,
     };
+    let reading = o.reading;
     let mut local = [0u8; 256];
     let mut room = [0u8; 65536];
     let out = go::begin(view, o.state, &mut room);
     let went = traps::broken_run(
         view,
+        reading,
         words,
         main,
         &mut local,
@@ -97,8 +99,8 @@ fn with_deck(lamps: bool, deck: &[u8], words: &mut [u64], at: usize)
     requires { ⌜ at ≤ 3 ⌝ }
 {
     match deck::read(deck, words) {
-        Reading::Refused(number) => tell::refused(at, number),
-        Reading::Words(count) => with_words(lamps, &words[0..count], at + 1),
+        ReadIn::Refused(number) => tell::refused(at, number),
+        ReadIn::Words(count) => with_words(lamps, &words[0..count], at + 1),
     }
 }
 

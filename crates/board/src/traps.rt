@@ -10,6 +10,7 @@ use crate::out;
 use crate::out::Out;
 use crate::tell;
 use arguments::Given;
+use codes::Reading;
 use machine::State;
 use run::Ending;
 use trap::Trapped;
@@ -115,6 +116,7 @@ fn show(answer: Trapped, out: Out, room: &mut [u8]) -> Out {
 // Runs up to each trap, and after the last until stop, refusal or budget, and shows each cycle and each trap.
 pub fn broken_run(
     view: View,
+    reading: Reading,
     store: &[u64],
     main: &mut [u8],
     local: &mut [u8],
@@ -124,7 +126,7 @@ pub fn broken_run(
     begun: Out,
     room: &mut [u8],
 ) -> Went
-    ensures { λ r. ⌜ BrokenInto budget (now (store .entry)) (now (main .entry)) (now (local .entry)) state (outcome (r .finished) (now (main .exit)) (now (local .exit))) ⌝ }
+    ensures { λ r. ⌜ BrokenInto budget reading (now (store .entry)) (now (main .entry)) (now (local .entry)) state (outcome (r .finished) (now (main .exit)) (now (local .exit))) ⌝ }
 {
     let end = os::arg_count();
     let mut now = state;
@@ -133,7 +135,18 @@ pub fn broken_run(
     let mut trap = next(first, end, 0);
     while trap.after < budget {
         let piece = trap.after - done;
-        let went = go::go(view, done, store, main, local, now, piece, out, room);
+        let went = go::go(
+            view,
+            done,
+            reading,
+            store,
+            main,
+            local,
+            now,
+            piece,
+            out,
+            room,
+        );
         let finished = went.finished;
         let ending = finished.ending;
         if !spent(ending) {
@@ -147,7 +160,18 @@ pub fn broken_run(
         trap = next(first, end, done + 1);
     }
     let rest = budget - done;
-    let went = go::go(view, done, store, main, local, now, rest, out, room);
+    let went = go::go(
+        view,
+        done,
+        reading,
+        store,
+        main,
+        local,
+        now,
+        rest,
+        out,
+        room,
+    );
     missed(trap);
     went
 }

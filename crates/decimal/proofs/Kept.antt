@@ -15,17 +15,18 @@ use Rattle.digits.proofs.Refusals as R
 use Rattle.digits.proofs.Truth.{zero-one, both}
 use Rattle.machine.specs.Cycle.{Outcome, outcome}
 use Rattle.machine.specs.declared.State.{State}
+use Rattle.codes.specs.declared.Reading.the-variants.{Basic}
 use Rattle.run.specs.Run.{ended, runOf}
 use Rattle.run.specs.declared.Finished.{Finished}
 use Rattle.run.specs.declared.Ending.the-variants.{Stopped}
-use Rattle.run.proofs.Goes.{machine, Halts, Right, goes-right}
+use Rattle.run.proofs.Goes.{machine, Halts, Right, lawful, goes-right}
 use Rattle.decimal.specs.Value.{value, decimalField}
 use Rattle.decimal.specs.Program.{shipped}
 use Rattle.decimal.specs.Entry.{addChecks, start, bound, runFor, answeredAt, fromRun, entryOf, SUMMED, addOf}
 use Rattle.decimal.specs.Promise.{untilBad, cyclesIn, exactSum, Sums, Bad, Untouched, bothFields, Accepted, Keeps, Promise}
 use Rattle.decimal.specs.declared.Added.{Added}
 use Rattle.decimal.specs.declared.Added.the-variants.{Summed, BadDigit, Refused}
-use Rattle.decimal.proofs.Steps.{idle, run-stops}
+use Rattle.decimal.proofs.Steps.{basic, idle, run-stops}
 use Rattle.decimal.proofs.Places.{Place, Reaches, Refuses}
 use Rattle.decimal.proofs.Places as P
 use Rattle.decimal.proofs.Pass2.{Passing}
@@ -129,9 +130,9 @@ no-bytes main local a b e = omega (arith, checked (length main) (length local) a
 -- a program that comes to its stop, or to another
 module _ (store main local : List ℕ) (s : State) (n done count : ℕ) (right : Right store (machine s main local)) (size : n ≤ 16) (less : count < bound n) where
   abbrev its-run : Outcome Finished
-  its-run = runOf (bound n) store main local s
+  its-run = runOf (bound n) Basic store main local s
 
-  pub comes-to : (q : Place) → q .wx ≡ done → Reaches store local count (machine s main local) q → ((x : State) → Right store (machine x (q .main) local) → Halts store (machine (idle (q .wx) x) (q .main) local))
+  pub comes-to : (q : Place) → q .wx ≡ done → Reaches store local count (machine s main local) q → ((x : State) → Right store (machine x (q .main) local) → Halts (basic store) (machine (idle (q .wx) x) (q .main) local))
       → (P : Added → List ℕ → List ℕ → Type 0) → ((x : State) → q .Known x → P (Summed (bit (x .s) 3) count) (q .main) local) → Finishes done its-run n P
   comes-to q e r halts P h =
       record {
@@ -139,7 +140,7 @@ module _ (store main local : List ℕ) (s : State) (n done count : ℕ) (right :
         count = count;
         main′ = q .main;
         local′ = local;
-        is = run-stops store (bound n) count s main local (machine (idle (q .wx) (r .x)) (q .main) local) right (omega (arith, size)) (r .goes) (halts (r .x) (goes-right (r .goes) right)) less;
+        is = run-stops store (bound n) count s main local (machine (idle (q .wx) (r .x)) (q .main) local) right (omega (arith, size)) (r .goes) (halts (r .x) (goes-right (lawful Basic store) (r .goes) right)) less;
         few = omega (arith, less);
         holds = subst (λ (t : Bool). P (cond t (Summed (bit (r .x .s) 3) count) (BadDigit count)) (q .main) local) (sym (eq-eqb (q .wx) done e)) (h (r .x) (r .known));
       }

@@ -14,7 +14,7 @@ use Rattle.machine.specs.Sources.{entered, sumIn}
 use Rattle.machine.specs.Branch.{nextOf}
 use Rattle.machine.specs.Storage.{accessOf}
 use Rattle.machine.specs.Status.{statusOf}
-use Rattle.machine.specs.Modelled.{unmodelledOf}
+use Rattle.codes.specs.Modelled.{unmodelledOf}
 use Rattle.decimal.specs.Program.{program}
 use Rattle.decimal.specs.Value.{decimalField}
 use Rattle.decimal.specs.Promise.{untilBad}

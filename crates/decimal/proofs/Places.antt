@@ -12,9 +12,10 @@ use Rattle.digits.proofs.Bits.{bit-with, bit-other}
 use Rattle.adder.proofs.Laws.{arithmetic}
 use Rattle.machine.specs.Cycle.{stops}
 use Rattle.machine.specs.declared.State.{State}
-use Rattle.run.proofs.Goes.{Machine, machine, Halts, Goes, join, Right, goes-right}
+use Rattle.codes.specs.declared.Reading.the-variants.{Basic}
+use Rattle.run.proofs.Goes.{Machine, machine, Halts, Goes, join, Right, lawful, goes-right}
 use Rattle.decimal.specs.Program.{Microword}
-use Rattle.decimal.proofs.Steps.{made, idle, Has, Turn, walked, Way, allGoing, turns, walk, fieldsAt, stop}
+use Rattle.decimal.proofs.Steps.{made, basic, idle, Has, Turn, walked, Way, allGoing, turns, walk, fieldsAt, stop}
 
 -- ---- what is seen of a state
 
@@ -106,7 +107,7 @@ module _ (store local : List ℕ) where
   -- k cycles from a machine to a place
   pub record Reaches (k : ℕ) (m : Machine) (q : Place) : Type 0 where
     pub x : State
-    pub goes : Goes store k m (machine (idle (q .wx) x) (q .main) local)
+    pub goes : Goes (basic store) k m (machine (idle (q .wx) x) (q .main) local)
     pub known : q .Known x
 
   -- from every state of one place to a state of another
@@ -116,7 +117,7 @@ module _ (store local : List ℕ) where
   -- one after the other
   pub on : {j k : ℕ} {m : Machine} {q r : Place} → Right store m → Reaches j m q → Block k q r → Reaches (j + k) m r
   on right y c =
-      let z = c (y .x) (goes-right (y .goes) right) (y .known) in
+      let z = c (y .x) (goes-right (lawful Basic store) (y .goes) right) (y .known) in
       record { x = z .x; goes = join (y .goes) (z .goes); known = z .known }
 
   pub then : {j k : ℕ} {p q r : Place} → Block j p q → Block k q r → Block (j + k) p r
@@ -145,8 +146,8 @@ module _ (store local : List ℕ) where
   -- k cycles to a stop at another word than this, with this in main storage
   pub record Refuses (done k : ℕ) (m : Machine) (main : List ℕ) : Type 0 where
     pub x : State
-    pub goes : Goes store k m (machine x main local)
-    pub stops : Halts store (machine x main local)
+    pub goes : Goes (basic store) k m (machine x main local)
+    pub stops : Halts (basic store) (machine x main local)
     pub apart : eqb (x .wx) done ≡ false
 
   -- from every state of a place
@@ -155,7 +156,7 @@ module _ (store local : List ℕ) where
 
   pub on-refuses : {done j k : ℕ} {m : Machine} {q : Place} {main : List ℕ} → Right store m → Reaches j m q → Refusing done k q main → Refuses done (j + k) m main
   on-refuses right y r =
-      let z = r (y .x) (goes-right (y .goes) right) (y .known) in
+      let z = r (y .x) (goes-right (lawful Basic store) (y .goes) right) (y .known) in
       record { x = z .x; goes = join (y .goes) (z .goes); stops = z .stops; apart = z .apart }
 
   pub then-refuses : {done j k : ℕ} {p q : Place} {main : List ℕ} → Block j p q → Refusing done k q main → Refusing done (j + k) p main
@@ -177,9 +178,9 @@ module _ (store : List ℕ) (program : List Microword) (places : List ℕ) (w : 
       let z : Machine = walked program ws m in
       record {
         x = z .state;
-        goes = subst (λ (wx : ℕ). Goes store (turns ws) m (machine (idle wx (z .state)) (q .main) local)) (r .comes)
-            (subst (λ (main : List ℕ). Goes store (turns ws) m (machine (idle (z .state .wx) (z .state)) main local)) (r .stores)
-            (subst (Goes store (turns ws) m) (sym (r .rests)) (walk store program places w ws t m right (r .way))));
+        goes = subst (λ (wx : ℕ). Goes (basic store) (turns ws) m (machine (idle wx (z .state)) (q .main) local)) (r .comes)
+            (subst (λ (main : List ℕ). Goes (basic store) (turns ws) m (machine (idle (z .state .wx) (z .state)) main local)) (r .stores)
+            (subst (Goes (basic store) (turns ws) m) (sym (r .rests)) (walk store program places w ws t m right (r .way))));
         known = r .known;
       }
 
@@ -191,7 +192,7 @@ module _ (store : List ℕ) (program : List Microword) (places : List ℕ) (w : 
       record {
         x = idle wx (y .x);
         goes = y .goes;
-        stops = stop store program places w wx t (machine (idle wx (y .x)) main local) (goes-right (y .goes) right) refl;
+        stops = stop store program places w wx t (machine (idle wx (y .x)) main local) (goes-right (lawful Basic store) (y .goes) right) refl;
         apart = e;
       }
 

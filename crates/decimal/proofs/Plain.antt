@@ -16,12 +16,12 @@ use Rattle.machine.specs.Sources.{entered, sumIn}
 use Rattle.machine.specs.Branch.{nextOf}
 use Rattle.machine.specs.Storage.{accessOf}
 use Rattle.machine.specs.Status.{statusOf}
-use Rattle.machine.specs.Modelled.{unmodelledOf}
+use Rattle.codes.specs.Modelled.{unmodelledOf}
 use Rattle.machine.specs.declared.State.{State}
 use Rattle.run.proofs.Goes.{Machine, machine, Halts, Right}
 use Rattle.decimal.specs.Program.{program, shipped}
 use Rattle.decimal.specs.Entry.{start, SUMMED}
-use Rattle.decimal.proofs.Steps.{Has, has, addresses, idle, Turn, run, allGoing, turns, stop}
+use Rattle.decimal.proofs.Steps.{Has, has, addresses, basic, idle, Turn, run, allGoing, turns, stop}
 use Rattle.decimal.proofs.Places.{branch, Marks, marked, marks, view, Place, at, atWith, inD, ended, Reaches, Block, look, look-with, Walks, walks, saved}
 use Rattle.decimal.proofs.Pairs.{held, address, within, starts, one-less, none-left, same, kept-carry}
 use Rattle.decimal.proofs.Pass1.{testing}
@@ -104,7 +104,7 @@ module _ (local main : List ℕ) (l : ℕ) (c : Bool) (m : Marks) where
       (record { way = ((refl, refl), tt); rests = refl; comes = refl; stores = refl; known = bit-with (x .s) 3 (arithmetic false (x .h) 255 0 .ac) ∙ carry }))
 
 -- 14: stop
-pub stop-14 : (local main : List ℕ) (x : State) → Right shipped (machine x main local) → Halts shipped (machine (idle SUMMED x) main local)
+pub stop-14 : (local main : List ℕ) (x : State) → Right shipped (machine x main local) → Halts (basic shipped) (machine (idle SUMMED x) main local)
 stop-14 local main x right = stop shipped program (addresses program) own SUMMED tt (machine (idle SUMMED x) main local) right refl
 
 -- 00 and 01: H := the carry in S3, T := L

@@ -1,12 +1,17 @@
--- That no second answer fits, and the paper's numbers to check by. Assumes nothing.
+-- That no second answer fits, the paper's numbers to check by, and that no reading matters to the shipped words. Assumes nothing.
 use Prim.Native.Nat.{ℕ}
 use mathlib.Core.Path.{_≡_, refl}
 use mathlib.Core.List.{List, [], _∷_}
+use mathlib.Core.Bool.{true}
 use denote.Ref.{now}
+use lib.Count.{ones}
 use Rattle.digits.specs.Refusal.{first}
 use Rattle.digits.proofs.Sole.{sole}
+use Rattle.word.specs.Word.{packed, inWidth}
+use Rattle.codes.specs.Seven.{usesNone}
 use Rattle.machine.specs.Cycle.{outcome}
 use Rattle.machine.specs.declared.State.{State}
+use Rattle.decimal.specs.Program.{shipped}
 use Rattle.decimal.specs.Entry.{addChecks}
 use Rattle.decimal.specs.declared.Added.{Added}
 use Rattle.decimal.proofs.words.Reads as words
@@ -52,3 +57,9 @@ pub to-check-by :
     ∷ []
     ≡ 0 ∷ 12 ∷ 12 ∷ 0 ∷ 13 ∷ 0 ∷ 14 ∷ 1 ∷ []
 to-check-by = refl
+
+-- ---- the shipped words use none of the seven codes of request 7, so that both readings run them alike (`run-alike`)
+
+pub uses-none : usesNone shipped ≡ true
+unfolding packed inWidth ones shipped
+uses-none = refl

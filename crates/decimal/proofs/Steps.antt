@@ -16,14 +16,15 @@ use Rattle.word.specs.declared.Packed.the-variants as P
 use Rattle.word.proofs.Trips.{packed-apart}
 use Rattle.machine.specs.Sources.{entered}
 use Rattle.machine.specs.Storage.{outside, mainAfter, localAfter}
-use Rattle.machine.specs.Modelled.{unmodelledOf}
+use Rattle.codes.specs.Modelled.{unmodelledOf}
+use Rattle.codes.specs.declared.Reading.the-variants.{Basic}
 use Rattle.machine.specs.Cycle.{outcome, stops, accessIn, ranOf, stepOf, cycleOf}
 use Rattle.machine.specs.declared.State.{State}
 use Rattle.machine.specs.declared.Cycled.the-variants as C
 use Rattle.machine.proofs.Cycles.{on-stop, on-ran, afterFields, on-apart}
-use Rattle.run.specs.Run.{ended, runOf}
+use Rattle.run.specs.Run.{Cycle, ended, runOf}
 use Rattle.run.specs.declared.Ending.the-variants.{Stopped}
-use Rattle.run.proofs.Goes.{Machine, machine, Leads, Halts, Goes, here, next, Right, goes-right, ends}
+use Rattle.run.proofs.Goes.{Machine, machine, Leads, Halts, Goes, here, next, Right, lawful, goes-right, ends}
 use Rattle.run.proofs.Promises.{right-begins}
 use Rattle.decimal.specs.Program.{Microword, microwordAt}
 
@@ -125,9 +126,13 @@ has store program places t a h =
 
 -- ---- one word
 
+-- "the shipped programs are run under basic"
+abbrev pub basic : List ℕ → Cycle
+basic store = cycleOf Basic store
+
 -- the state that it leaves
 abbrev pub stateAfter : Fields → Machine → State
-stateAfter f m = afterFields f (m .main) (m .local) (m .state)
+stateAfter f m = afterFields Basic f (m .main) (m .local) (m .state)
 
 -- and main storage
 abbrev pub mainLeft : Fields → Machine → List ℕ
@@ -143,22 +148,22 @@ T-true false t = absurd t
 
 -- it neither stops nor is refused by 10
 abbrev runsOn : Fields → Bool
-runsOn f = not (stops f) && eqb (unmodelledOf f) 0
+runsOn f = not (stops f) && eqb (unmodelledOf Basic f) 0
 
 module _ (store : List ℕ) (a : ℕ) (f : Fields) (w : Holds store a f) (m : Machine) (right : Right store m) (here : m .state .wx ≡ a) where
-  by-fields : stepOf f (m .main) (m .local) (m .state) ≡ cycleOf store (m .main) (m .local) (m .state)
+  by-fields : stepOf Basic f (m .main) (m .local) (m .state) ≡ cycleOf Basic store (m .main) (m .local) (m .state)
   by-fields =
-      on-apart store (m .main) (m .local) (m .state) right (rw here (w .inside)) f
+      on-apart Basic store (m .main) (m .local) (m .state) right (rw here (w .inside)) f
       (rw here (packed-apart f a (getD store a 0) (w .word)))
 
-  runs : T (runsOn f) → outside (length (m .main)) (accessIn f (m .state)) ≡ false → Leads store m (leaving f m (mainLeft f m))
+  runs : T (runsOn f) → outside (length (m .main)) (accessIn f (m .state)) ≡ false → Leads (basic store) m (leaving f m (mainLeft f m))
   unfolding ranOf
   runs t o =
-      let (going, modelled) = and-yes (not (stops f)) (eqb (unmodelledOf f) 0) t in
-      sym (on-ran f (m .main) (m .local) (m .state) (not-true (stops f) (T-true (not (stops f)) going)) (eqb→eq (unmodelledOf f) 0 modelled) o) ∙ by-fields
+      let (going, modelled) = and-yes (not (stops f)) (eqb (unmodelledOf Basic f) 0) t in
+      sym (on-ran Basic f (m .main) (m .local) (m .state) (not-true (stops f) (T-true (not (stops f)) going)) (eqb→eq (unmodelledOf Basic f) 0 modelled) o) ∙ by-fields
 
-  pub halts : T (stops f) → Halts store m
-  halts t = sym (on-stop f (m .main) (m .local) (m .state) (T-true (stops f) t)) ∙ by-fields
+  pub halts : T (stops f) → Halts (basic store) m
+  halts t = sym (on-stop Basic f (m .main) (m .local) (m .state) (T-true (stops f) t)) ∙ by-fields
 
 -- ---- words in a row
 
@@ -208,26 +213,26 @@ turns (w ∷ ws) = suc (turns ws)
 
 module _ (store : List ℕ) (program : List Microword) (places : List ℕ) (w : Has store program places) where
   one-turn : (a : ℕ) → T (going program places a) → (m : Machine) → Right store m → Comes program a m → (main : List ℕ) → mainLeft (fieldsAt program a) (there a m) ≡ main
-      → Leads store m (leaving (fieldsAt program a) (there a m) main)
+      → Leads (basic store) m (leaving (fieldsAt program a) (there a m) main)
   one-turn a t m right (come, inside) main e =
       let f : Fields = fieldsAt program a in
       let x : Machine = there a m in
       let (placed-there, going) = and-yes (among a places) (runsOn f) t in
-      subst (λ (s : State). Leads store (machine s (m .main) (m .local)) (leaving f x main)) (λ i. placed (sym come i) (m .state))
+      subst (λ (s : State). Leads (basic store) (machine s (m .main) (m .local)) (leaving f x main)) (λ i. placed (sym come i) (m .state))
       (ap (λ (l : List ℕ). outcome (C.Ran (stateAfter f x)) l (leaving f x main .local)) (sym e) ∙ runs store a f (w a placed-there) x right refl going inside)
 
-  pub walk : (ws : List Turn) → T (allGoing program places ws) → (m : Machine) → Right store m → Way program ws m → Goes store (turns ws) m (walked program ws m)
+  pub walk : (ws : List Turn) → T (allGoing program places ws) → (m : Machine) → Right store m → Way program ws m → Goes (basic store) (turns ws) m (walked program ws m)
   walk [] t m right way = here
   walk (run a ∷ ws) t m right (comes, rest) =
       let (on, more) = and-yes (going program places a) (allGoing program places ws) t in
       let one = one-turn a on m right comes (mainLeft (fieldsAt program a) (there a m)) refl in
-      next one (walk ws more (ran program a m) (goes-right (next one here) right) rest)
+      next one (walk ws more (ran program a m) (goes-right (lawful Basic store) (next one here) right) rest)
   walk (back a ∷ ws) t m right (comes, stands, rest) =
       let (on, more) = and-yes (going program places a) (allGoing program places ws) t in
       let one = one-turn a on m right comes (m .main) stands in
-      next one (walk ws more (put-back program a m) (goes-right (next one here) right) rest)
+      next one (walk ws more (put-back program a m) (goes-right (lawful Basic store) (next one here) right) rest)
 
-  pub stop : (a : ℕ) → T (among a places && stops (fieldsAt program a)) → (m : Machine) → Right store m → m .state .wx ≡ a → Halts store m
+  pub stop : (a : ℕ) → T (among a places && stops (fieldsAt program a)) → (m : Machine) → Right store m → m .state .wx ≡ a → Halts (basic store) m
   stop a t m right come =
       let (placed-there, stopping) = and-yes (among a places) (stops (fieldsAt program a)) t in
       halts store a (fieldsAt program a) (w a placed-there) m right come stopping
@@ -236,6 +241,6 @@ module _ (store : List ℕ) (program : List Microword) (places : List ℕ) (w : 
 
 -- that comes to a stop within its budget
 pub run-stops : (store : List ℕ) (budget k : ℕ) (s : State) (main local : List ℕ) (x : Machine) → Right store (machine s main local) → budget ≤ 1000000
-    → Goes store k (machine s main local) x → Halts store x → k < budget → runOf budget store main local s ≡ ended Stopped (x .state) k (x .main) (x .local)
+    → Goes (basic store) k (machine s main local) x → Halts (basic store) x → k < budget → runOf budget Basic store main local s ≡ ended Stopped (x .state) k (x .main) (x .local)
 run-stops store budget k s main local x right most g h less =
-    sym (right-begins store (machine s main local) right budget most) ∙ ends g budget Stopped (less, h)
+    sym (right-begins (basic store) store (machine s main local) right budget most) ∙ ends g budget Stopped (less, h)

@@ -7,6 +7,7 @@ use lib.ListN.{length}
 use Rattle.digits.specs.Bits.{bit, withBit}
 use Rattle.digits.specs.Refusal.{Check, first, answer}
 use Rattle.digits.specs.Sizes.{storageWrong}
+use Rattle.codes.specs.declared.Reading.the-variants.{Basic}
 use Rattle.machine.specs.Cycle.{Outcome, outcome}
 use Rattle.machine.specs.declared.State.{State}
 use Rattle.run.specs.Run.{runOf}
@@ -73,9 +74,9 @@ start a b n carry = startWith a b n (withBit 0 3 carry)
 abbrev pub bound : ℕ → ℕ
 bound n = 40 * n + 40
 
--- "It then runs the shipped words"
+-- "It then runs the shipped words"; "the shipped programs are run under basic"
 abbrev pub runFor : List ℕ → List ℕ → ℕ → ℕ → ℕ → Bool → Outcome Finished
-runFor main local a b n carry = runOf (bound n) shipped main local (start a b n carry)
+runFor main local a b n carry = runOf (bound n) Basic shipped main local (start a b n carry)
 
 -- "it answers summed with the carry from S3, or bad digit, by the word it stopped at": summed at this one
 abbrev pub answeredAt : ℕ → Finished → Added

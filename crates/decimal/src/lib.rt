@@ -6,8 +6,10 @@ ghost use Rattle.digits.specs.Refusal.{first};
 ghost use Rattle.machine.specs.Cycle.{outcome};
 ghost use Rattle.decimal.specs.Program.{shipped};
 ghost use Rattle.run.specs.Run.{runOf};
+ghost use Rattle.codes.specs.declared.Reading.the-variants.{Basic};
 ghost use Rattle.decimal.specs.Entry.{pastEnd, overlap, addChecks, startWith, start, bound, answeredAt, entryOf, addOf};
 ghost use Rattle.decimal.specs.Promise.{Promise};
+use codes::Reading;
 use machine::State;
 use run::Finished;
 
@@ -150,7 +152,7 @@ pub fn entry(
     status: u8,
     done: u16,
 ) -> Added
-    ensures { λ r. ⌜ outcome r (now (main .exit)) (now (local .exit)) ≡ entryOf done (runOf (bound length) (now (store .entry)) (now (main .entry)) (now (local .entry)) (startWith first second length status)) (now (main .entry)) (now (local .entry)) first second length ⌝ }
+    ensures { λ r. ⌜ outcome r (now (main .exit)) (now (local .exit)) ≡ entryOf done (runOf (bound length) Basic (now (store .entry)) (now (main .entry)) (now (local .entry)) (startWith first second length status)) (now (main .entry)) (now (local .entry)) first second length ⌝ }
 {
     let number = refusal(main.len(), local.len(), first, second, length);
     if number != 0 {
@@ -158,7 +160,7 @@ pub fn entry(
     }
     let state = start_with(first as u16, second as u16, length as u8, status);
     let budget = 40 * (length as u32) + 40;
-    let finished = run::run(store, main, local, state, budget);
+    let finished = run::run(Reading::Basic, store, main, local, state, budget);
     answered_at(finished, done)
 }
 

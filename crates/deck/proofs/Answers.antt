@@ -16,7 +16,7 @@ use Rattle.digits.specs.Lent.{over}
 use Rattle.digits.specs.Lists.{inTurn}
 use Rattle.digits.specs.Sizes.{roomWrong}
 use Rattle.deck.specs.Deck.{lengthWrong, wordChecks, deckChecks, blocksOf, wordsOf, readChecks, readOf, wordsAfter, blockCount, deckOf, wordsWrong, writeChecks, writeOf, deckAfter}
-use Rattle.deck.specs.declared.Reading.the-variants as R
+use Rattle.deck.specs.declared.ReadIn.the-variants as R
 use Rattle.deck.specs.declared.Writing.the-variants as W
 use Rattle.deck.proofs.Checks.{blocks-numbered, read-numbered, write-numbered}
 

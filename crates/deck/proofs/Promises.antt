@@ -12,8 +12,8 @@ use Rattle.digits.proofs.Sole.{sole}
 use Rattle.digits.specs.Lent.{over}
 use Rattle.digits.specs.Lists.{pieces}
 use Rattle.deck.specs.Deck.{countIn, checkOf, blockOf, blocksFor, readChecks, readOf, wordsAfter, wordsOf, blockCount, deckOf, writeChecks, writeOf, deckAfter}
-use Rattle.deck.specs.declared.Reading.{Reading}
-use Rattle.deck.specs.declared.Reading.the-variants as R
+use Rattle.deck.specs.declared.ReadIn.{ReadIn}
+use Rattle.deck.specs.declared.ReadIn.the-variants as R
 use Rattle.deck.specs.declared.Writing.{Writing}
 use Rattle.deck.specs.declared.Writing.the-variants as W
 use Rattle.digits.proofs.Lists.{length-pieces, pieces-at, placed-at}
@@ -64,7 +64,7 @@ block-of-P = (refl, refl)
 
 -- ---- no second answer fits: two results that meet one contract at the same arguments are the same, with what stands in the room lent
 
-pub read-sole : (κs : _) (args : _) (r s : Reading) (x y : _) → read.Post κs args r x → read.Post κs args s y → (r ≡ s) × (now (x .1 .0) ≡ now (y .1 .0))
+pub read-sole : (κs : _) (args : _) (r s : ReadIn) (x y : _) → read.Post κs args r x → read.Post κs args s y → (r ≡ s) × (now (x .1 .0) ≡ now (y .1 .0))
 read-sole κs args r s x y p q = (sole (p .0) (q .0), sole (p .1) (q .1))
 
 pub write-sole : (κs : _) (args : _) (r s : Writing) (x y : _) → write.Post κs args r x → write.Post κs args s y → (r ≡ s) × (now (x .1 .0) ≡ now (y .1 .0))

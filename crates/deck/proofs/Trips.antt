@@ -12,7 +12,7 @@ use Rattle.digits.proofs.Refusals.{None, none-first}
 use Rattle.digits.specs.Lent.{over}
 use Rattle.digits.specs.Lists.{pieces, inTurn, joined}
 use Rattle.deck.specs.Deck.{groupsOf, blocksOf, bytesOf, wordsIn, wordsOf, wordChecks, deckChecks, readChecks, readOf, wordsAfter, blockCount, blocksFor, deckOf, wordsWrong, writeChecks, writeOf, deckAfter}
-use Rattle.deck.specs.declared.Reading.the-variants as R
+use Rattle.deck.specs.declared.ReadIn.the-variants as R
 use Rattle.deck.specs.declared.Writing.the-variants as W
 use Rattle.digits.specs.Table.{Each}
 use Rattle.digits.proofs.Table.{Below, each, each-split}

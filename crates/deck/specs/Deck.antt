@@ -12,8 +12,8 @@ use Rattle.digits.specs.Lent.{over}
 use Rattle.digits.specs.Sizes.{roomWrong}
 use Rattle.digits.specs.Lists.{pieces, joined, placed, inTurn, allZero}
 use Rattle.digits.specs.Number.{digitsOf, numberOf}
-use Rattle.deck.specs.declared.Reading.{Reading}
-use Rattle.deck.specs.declared.Reading.the-variants as R
+use Rattle.deck.specs.declared.ReadIn.{ReadIn}
+use Rattle.deck.specs.declared.ReadIn.the-variants as R
 use Rattle.deck.specs.declared.Writing.{Writing}
 use Rattle.deck.specs.declared.Writing.the-variants as W
 
@@ -120,7 +120,7 @@ readChecks deck room =
     (15, lengthWrong (length deck)) ∷ (deckChecks deck ++ ((19, roomWrong (length (wordsOf deck)) room) ∷ []))
 
 -- "Accepted, it gives the number of words"
-unfoldable pub readOf : List ℕ → ℕ → Reading
+unfoldable pub readOf : List ℕ → ℕ → ReadIn
 readOf deck room = answer (first (readChecks deck room)) R.Refused (R.Words (length (wordsOf deck)))
 
 -- "and writes those and nothing past them"; "refused, it writes nothing."

@@ -10,7 +10,7 @@ ghost use Rattle.digits.specs.Number.{digitsOf, numberOf};
 ghost use Rattle.deck.specs.Deck.{groupsOf, bytesOf, blockAt, numberIn, countIn, wordsIn, checkOf, countWrong, unusedWrong, lengthWrong, shapeWrong, wordChecks, blockChecks, deckChecks, wordsOf, readOf, wordsAfter, blockOf, blockCount, deckOf, writeOf, deckAfter};
 use digits::first_of;
 
-pub enum Reading {
+pub enum ReadIn {
     Words(usize),
     Refused(u8),
 }
@@ -241,22 +241,22 @@ fn length_wrong(length: usize) -> bool
 
 // The number of words, which then stand at the front of `words`; or 15, then block by block 16, 17,
 // 18 and 3 to 9, then 19.
-pub fn read(deck: &[u8], words: &mut [u64]) -> Reading
+pub fn read(deck: &[u8], words: &mut [u64]) -> ReadIn
     ensures { λ r. ⌜ (r ≡ readOf (now (deck .entry)) (length (now (words .entry)))) × (now (words .exit) ≡ wordsAfter (now (deck .entry)) (now (words .entry))) ⌝ }
 {
     if length_wrong(deck.len()) {
-        return Reading::Refused(15);
+        return ReadIn::Refused(15);
     }
     let number = deck_fault(deck);
     if number != 0 {
-        return Reading::Refused(number);
+        return ReadIn::Refused(number);
     }
     let count = count_words(deck);
     if words.len() < count {
-        return Reading::Refused(19);
+        return ReadIn::Refused(19);
     }
     put_all(deck, words);
-    Reading::Words(count)
+    ReadIn::Words(count)
 }
 
 // The block of at most 62 words, at the place `b`.

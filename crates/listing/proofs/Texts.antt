@@ -10,7 +10,7 @@ use Rattle.digits.specs.Refusal.{first}
 use Rattle.digits.proofs.Refusals.{same-refusal}
 use Rattle.digits.specs.Lists.{inTurn}
 use Rattle.deck.specs.Deck.{readChecks, readOf, wordsAfter, wordsOf}
-use Rattle.deck.specs.declared.Reading.the-variants as R
+use Rattle.deck.specs.declared.ReadIn.the-variants as R
 use Rattle.digits.proofs.Lists.{placed-step}
 use Rattle.deck.proofs.Answers.{reading-tells, was-read, taken}
 use Rattle.listing.specs.Listing.{textLine, linesOf, refusalOf, textOf}

@@ -5,7 +5,7 @@ ghost use lib.ListN.{length};
 ghost use Rattle.digits.specs.Lent.{over};
 ghost use Rattle.listing.specs.Listing.{textLine, linesOf, refusalOf, textOf};
 ghost use Rattle.text.specs.Text.{putOf, roomAfter};
-use deck::Reading;
+use deck::ReadIn;
 use text::Written;
 use text::put_hexadecimal;
 
@@ -61,7 +61,7 @@ pub fn print(deck: &[u8], room: &mut [u8]) -> Written
     let mut words = [0u64; 4096];
     let read = deck::read(deck, &mut words);
     match read {
-        Reading::Words(count) => list(&words[0..count], room),
-        Reading::Refused(number) => refusal(number, room),
+        ReadIn::Words(count) => list(&words[0..count], room),
+        ReadIn::Refused(number) => refusal(number, room),
     }
 }

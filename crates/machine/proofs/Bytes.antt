@@ -15,12 +15,16 @@ use Rattle.digits.specs.Refusal.{first}
 use Rattle.word.specs.Layout.{fieldsOf}
 use Rattle.word.specs.Parity.{caToW, kToW, isReturn}
 use Rattle.word.specs.declared.Fields.{Fields}
+use Rattle.codes.specs.Reading.{isBasic}
+use Rattle.codes.specs.Branches.{highBranches, lowBranches}
+use Rattle.codes.specs.Status.{statuses}
+use Rattle.codes.specs.declared.Reading.{Reading}
 use Rattle.adder.specs.declared.Sum.{Sum}
 use Rattle.adder.proofs.Laws.{sum-byte}
 use Rattle.machine.specs.Sources.{entered, aSource, aSources, bSource, bSources, controlsOf, sumIn}
-use Rattle.machine.specs.Branch.{highBranches, lowBranches, wOf, xOf, nextOf}
+use Rattle.machine.specs.Branch.{testedOf, wOf, xOf, nextOf}
 use Rattle.machine.specs.Storage.{readsLocal, accesses, accessOf, idle, fetchedOf, mainAddress}
-use Rattle.machine.specs.Status.{into, saves, statuses, statusOf}
+use Rattle.machine.specs.Status.{into, saves, statusOf}
 use Rattle.machine.specs.Cycle.{stops, cycleChecks, wordAt, after, ranOf, decided, cycleOf}
 use Rattle.machine.specs.declared.Cycled.the-variants.{Ran}
 use Rattle.machine.specs.declared.State.{State}
@@ -117,14 +121,14 @@ pub fetched-byte : (main local : List ℕ) (a : Access) → AllBytes main → Al
 fetched-byte main local a hm hl = below (a .fetches) _ 0 (below (a .local) _ _ (hl (a .n)) (hm (mainAddress a))) (omega arith)
 
 -- e
-status-byte : (f : Fields) (z : Sum) (s : ℕ) → Byte s → Byte (statusOf f z s)
+status-byte : (reading : Reading) (f : Fields) (z : Sum) (s : ℕ) → Byte s → Byte (statusOf reading f z s)
 unfolding statusOf
-status-byte f z s h =
+status-byte reading f z s h =
     let on : (x n : ℕ) (b : Bool) → Byte x → Byte (withBit x n b) = λ x n b k. with-lt x n b k in
     let s5 : Bool = eqb (low (z .result)) 0 in
     let s4 : Bool = eqb (high (z .result)) 0 in
-    let changed : Byte (getD (statuses (z .result) s) (f .cs) s) =
-    any Byte (statuses (z .result) s) s (
+    let changed : Byte (getD (statuses reading (z .result) s) (f .cs) s) =
+    any Byte (statuses reading (z .result) s) s (
       h,
       (
         on s 5 s5 h,
@@ -135,14 +139,14 @@ status-byte f z s h =
             (
               on (withBit s 4 false) 5 false (on s 4 false h),
               (
-                h,
+                below (isBasic reading) s (withBit s 1 true) h (on s 1 true h),
                 (
                   on s 0 false h,
                   (
                     on s 0 true h,
                     (
                       on s 2 false h,
-                      (below (eqb (z .result) 0) s (withBit s 2 true) h (on s 2 true h), (on s 6 false h, (on s 6 true h, (on s 7 false h, (on s 7 true h, tt))))),
+                      (below (eqb (z .result) 0) s (withBit s 2 true) h (on s 2 true h), (on s 6 false h, (on s 6 true h, (on s 7 false h, (on s 7 true h, (h, (below (isBasic reading) s (withBit s 1 false) h (on s 1 false h), tt))))))),
                     ),
                   ),
                 ),
@@ -154,16 +158,16 @@ status-byte f z s h =
     ) h (f .cs) in
     below (saves (f .cc)) _ _ (on _ 3 (z .ac) changed) changed
 
-next-fits : (f : Fields) (s : State) → f .cn < 64 → f .ca < 16 → f .ck < 16 → s .wx < 65536 → s .fwx < 65536 → nextOf f s < 65536
+next-fits : (reading : Reading) (f : Fields) (s : State) → f .cn < 64 → f .ca < 16 → f .ck < 16 → s .wx < 65536 → s .fwx < 65536 → nextOf reading f s < 65536
 unfolding nextOf
-next-fits f s n a k h held =
+next-fits reading f s n a k h held =
     let w : wOf f (s .wx) < 256 = below (caToW f) (f .ca) _ (omega arith) (below (kToW f) (f .ck) _ (omega arith) (omega arith)) in
-    let formed : wOf f (s .wx) * 256 + xOf f s < 65536 = omega (arith, one-lt (getD (highBranches s) (f .ch) false), one-lt (getD (lowBranches s) (f .cl) false)) in
+    let formed : wOf f (s .wx) * 256 + xOf reading f s < 65536 = omega (arith, one-lt (getD (highBranches reading (testedOf s)) (f .ch) false), one-lt (getD (lowBranches reading (testedOf s)) (f .cl) false)) in
     below (isReturn f) (s .fwx) _ held formed
 
-pub after-bytes : (f : Fields) (z : Sum) (a : Access) (b : ℕ) (s : State) → f .cn < 64 → f .ca < 16 → f .ck < 16
-    → Byte (z .result) → Addressed a → Byte b → Bytes s → Bytes (after f z a b s)
-after-bytes f z a b s cn ca ck hz ha hb k =
+pub after-bytes : (reading : Reading) (f : Fields) (z : Sum) (a : Access) (b : ℕ) (s : State) → f .cn < 64 → f .ca < 16 → f .ck < 16
+    → Byte (z .result) → Addressed a → Byte b → Bytes s → Bytes (after reading f z a b s)
+after-bytes reading f z a b s cn ca ck hz ha hb k =
     let to : (code old : ℕ) → Byte old → Byte (into code (f .cd) (z .result) old) = λ code old h. below (eqb (f .cd) code) (z .result) old hz h in
     record {
       i = to 15 (s .i) (k .i);
@@ -174,12 +178,12 @@ after-bytes f z a b s cn ca ck hz ha hb k =
       t = to 11 (s .t) (k .t);
       d = to 8 (s .d) (k .d);
       r = to 7 (s .r) (k .r);
-      s′ = status-byte f z _ (to 6 (s .s) (k .s′));
+      s′ = status-byte reading f z _ (to 6 (s .s) (k .s′));
       g = to 10 (s .g) (k .g);
       h = to 5 (s .h) (k .h);
       m = ha .m;
       n = ha .n;
-      wx = next-fits f s cn ca ck (k .wx) (k .fwx);
+      wx = next-fits reading f s cn ca ck (k .wx) (k .fwx);
       fwx = k .fwx;
       arriving = hb;
     }
@@ -204,30 +208,30 @@ pub record Sound (t : State) (main local : List ℕ) : Type 0 where
   pub in-main : AllBytes main
   pub in-local : AllBytes local
 
-ran-sound : (f : Fields) (main local : List ℕ) (s t : State) → f .cn < 64 → f .ca < 16 → f .ck < 16 → Sound s main local → ranOf f main local s .answer ≡ Ran t
-    → Sound t (ranOf f main local s .main) (ranOf f main local s .local)
+ran-sound : (reading : Reading) (f : Fields) (main local : List ℕ) (s t : State) → f .cn < 64 → f .ca < 16 → f .ck < 16 → Sound s main local → ranOf reading f main local s .answer ≡ Ran t
+    → Sound t (ranOf reading f main local s .main) (ranOf reading f main local s .local)
 unfolding ranOf
-ran-sound f main local s t cn ca ck h e =
+ran-sound reading f main local s t cn ca ck h e =
     let b = entered-bytes f s (h .registers) in
     let a : Access = accessOf f (entered f s) in
-    let is : after f (sumIn f (entered f s)) a (fetchedOf main local a) (entered f s) ≡ t = cc in
+    let is : after reading f (sumIn f (entered f s)) a (fetchedOf main local a) (entered f s) ≡ t = cc in
     record {
       registers = subst Bytes is
-          (after-bytes f (sumIn f (entered f s)) a (fetchedOf main local a) (entered f s) cn ca ck (sum-bytes f (entered f s) ck b) (access-bytes f (entered f s) b)
+          (after-bytes reading f (sumIn f (entered f s)) a (fetchedOf main local a) (entered f s) cn ca ck (sum-bytes f (entered f s) ck b) (access-bytes f (entered f s) b)
           (fetched-byte main local a (h .in-main) (h .in-local)) b);
       in-main = kept-bytes (a .puts && not (a .local)) _ main (set-bytes main (mainAddress a) (entered f s .r) (h .in-main) (b .r)) (h .in-main);
       in-local = kept-bytes (a .puts && a .local) _ local (set-bytes local (a .n) (entered f s .r) (h .in-local) (b .r)) (h .in-local);
     }
 
-decided-sound : (n : ℕ) (stop : Bool) (f : Fields) (main local : List ℕ) (s t : State) → f .cn < 64 → f .ca < 16 → f .ck < 16 → Sound s main local
-    → decided n stop f main local s .answer ≡ Ran t → Sound t (decided n stop f main local s .main) (decided n stop f main local s .local)
-decided-sound (suc n) stop f main local s t cn ca ck h e = absurd (zero-one cc)
-decided-sound zero true f main local s t cn ca ck h e = absurd (zero-one cc)
-decided-sound zero false f main local s t cn ca ck h e = ran-sound f main local s t cn ca ck h e
+decided-sound : (reading : Reading) (n : ℕ) (stop : Bool) (f : Fields) (main local : List ℕ) (s t : State) → f .cn < 64 → f .ca < 16 → f .ck < 16 → Sound s main local
+    → decided reading n stop f main local s .answer ≡ Ran t → Sound t (decided reading n stop f main local s .main) (decided reading n stop f main local s .local)
+decided-sound reading (suc n) stop f main local s t cn ca ck h e = absurd (zero-one cc)
+decided-sound reading zero true f main local s t cn ca ck h e = absurd (zero-one cc)
+decided-sound reading zero false f main local s t cn ca ck h e = ran-sound reading f main local s t cn ca ck h e
 
-pub bytes-stay : (store main local : List ℕ) (s t : State) → Sound s main local → cycleOf store main local s .answer ≡ Ran t
-    → Sound t (cycleOf store main local s .main) (cycleOf store main local s .local)
+pub bytes-stay : (reading : Reading) (store main local : List ℕ) (s t : State) → Sound s main local → cycleOf reading store main local s .answer ≡ Ran t
+    → Sound t (cycleOf reading store main local s .main) (cycleOf reading store main local s .local)
 unfolding cycleOf
-bytes-stay store main local s t h e =
+bytes-stay reading store main local s t h e =
     let f : Fields = fieldsOf (wordAt store s) in
-    decided-sound (first (cycleChecks store main local s)) (stops f) f main local s t (omega arith) (omega arith) (omega arith) h e
+    decided-sound reading (first (cycleChecks reading store main local s)) (stops f) f main local s t (omega arith) (omega arith) (omega arith) h e

@@ -1,7 +1,6 @@
-mod Arms
 mod Inside
-mod Scan
 pub mod Cycles
 pub mod Unread
+pub mod Seven
 pub mod Promises
 pub mod Bytes

@@ -19,10 +19,11 @@ use Rattle.word.specs.Layout.{lineOf, fieldsOf}
 use Rattle.word.specs.Word.{faultChecks, apartChecks, takenApart}
 use Rattle.word.specs.declared.Apart.the-variants as A
 use Rattle.word.specs.declared.Fields.{Fields}
+use Rattle.codes.specs.Modelled.{codeRows, rowCheck, unmodelledOf}
+use Rattle.codes.specs.declared.Reading.{Reading}
 use Rattle.machine.specs.Cycle.{Outcome, outcome, stops, stepChecks, cycleChecks, wordAt, ranOf, fieldOf, decided, cycleOf, refusalNumber, nextSumOf}
 use Rattle.machine.specs.Sources.{entered, workIn}
 use Rattle.machine.specs.Storage.{mainAddress, accessOf}
-use Rattle.machine.specs.Modelled.{codeRows, rowCheck, unmodelledOf}
 use Rattle.machine.specs.declared.State.{State}
 use Rattle.machine.specs.declared.Access.{Access}
 use Rattle.machine.specs.declared.Cycled.{Cycled}
@@ -34,89 +35,89 @@ use Rattle.machine.proofs.cycle.Reads as cycle
 use Rattle.machine.proofs.next_sum.Reads as next-sum
 
 -- what runs is answered so, and no other way
-ran-ran : (f : Fields) (main local : List ℕ) (s : State) → (t : State) × (ranOf f main local s .answer ≡ Ran t)
+ran-ran : (reading : Reading) (f : Fields) (main local : List ℕ) (s : State) → (t : State) × (ranOf reading f main local s .answer ≡ Ran t)
 unfolding ranOf
-ran-ran f main local s = (_, refl)
+ran-ran reading f main local s = (_, refl)
 
-ran-not-stopped : (f : Fields) (main local : List ℕ) (s t : State) → ranOf f main local s .answer ≡ Stopped t → ⊥
-ran-not-stopped f main local s t e = let (x, r) = ran-ran f main local s in zero-one cc
+ran-not-stopped : (reading : Reading) (f : Fields) (main local : List ℕ) (s t : State) → ranOf reading f main local s .answer ≡ Stopped t → ⊥
+ran-not-stopped reading f main local s t e = let (x, r) = ran-ran reading f main local s in zero-one cc
 
-ran-not-refused : (f : Fields) (main local : List ℕ) (s t : State) (n g : ℕ) → ranOf f main local s .answer ≡ Refused t n g → ⊥
-ran-not-refused f main local s t n g e = let (x, r) = ran-ran f main local s in zero-one cc
+ran-not-refused : (reading : Reading) (f : Fields) (main local : List ℕ) (s t : State) (n g : ℕ) → ranOf reading f main local s .answer ≡ Refused t n g → ⊥
+ran-not-refused reading f main local s t n g e = let (x, r) = ran-ran reading f main local s in zero-one cc
 
 -- ---- exactly when each of 1, 2, 3 to 11 is given
 
-ran-number : (f : Fields) (main local : List ℕ) (s : State) → refusalNumber (ranOf f main local s .answer) ≡ 0
+ran-number : (reading : Reading) (f : Fields) (main local : List ℕ) (s : State) → refusalNumber (ranOf reading f main local s .answer) ≡ 0
 unfolding ranOf
-ran-number f main local s = refl
+ran-number reading f main local s = refl
 
-decided-number : (n : ℕ) (stop : Bool) (f : Fields) (main local : List ℕ) (s : State) → refusalNumber (decided n stop f main local s .answer) ≡ n
-decided-number (suc n) stop f main local s = refl
-decided-number zero true f main local s = refl
-decided-number zero false f main local s = ran-number f main local s
+decided-number : (reading : Reading) (n : ℕ) (stop : Bool) (f : Fields) (main local : List ℕ) (s : State) → refusalNumber (decided reading n stop f main local s .answer) ≡ n
+decided-number reading (suc n) stop f main local s = refl
+decided-number reading zero true f main local s = refl
+decided-number reading zero false f main local s = ran-number reading f main local s
 
-pub cycle-exactly : (store main local : List ℕ) (s : State) (n : ℕ) → (refusalNumber (cycleOf store main local s .answer) ≡ suc n) ↔ Given (suc n) (cycleChecks store main local s)
+pub cycle-exactly : (reading : Reading) (store main local : List ℕ) (s : State) (n : ℕ) → (refusalNumber (cycleOf reading store main local s .answer) ≡ suc n) ↔ Given (suc n) (cycleChecks reading store main local s)
 unfolding cycleOf
-cycle-exactly store main local s n =
+cycle-exactly reading store main local s n =
     let f : Fields = fieldsOf (wordAt store s) in
-    let is = decided-number (first (cycleChecks store main local s)) (stops f) f main local s in
-    (λ e. first-given (cycleChecks store main local s) n (sym is ∙ e), λ g. is ∙ given-first (cycleChecks store main local s) (suc n) g)
+    let is = decided-number reading (first (cycleChecks reading store main local s)) (stops f) f main local s in
+    (λ e. first-given (cycleChecks reading store main local s) n (sym is ∙ e), λ g. is ∙ given-first (cycleChecks reading store main local s) (suc n) g)
 
 -- ---- exactly when a cycle stops, and when it runs: no number is given, and the word stops or does not
 
-module _ (f : Fields) (main local : List ℕ) (s t : State) where
-  decided-stopped : (n : ℕ) (stop : Bool) → decided n stop f main local s .answer ≡ Stopped t → (n ≡ 0) × (stop ≡ true)
+module _ (reading : Reading) (f : Fields) (main local : List ℕ) (s t : State) where
+  decided-stopped : (n : ℕ) (stop : Bool) → decided reading n stop f main local s .answer ≡ Stopped t → (n ≡ 0) × (stop ≡ true)
   decided-stopped (suc n) stop e = absurd (zero-one cc)
   decided-stopped zero true e = (refl, refl)
-  decided-stopped zero false e = absurd (ran-not-stopped f main local s t e)
+  decided-stopped zero false e = absurd (ran-not-stopped reading f main local s t e)
 
-  decided-ran : (n : ℕ) (stop : Bool) → decided n stop f main local s .answer ≡ Ran t → (n ≡ 0) × (stop ≡ false)
+  decided-ran : (n : ℕ) (stop : Bool) → decided reading n stop f main local s .answer ≡ Ran t → (n ≡ 0) × (stop ≡ false)
   decided-ran (suc n) stop e = absurd (zero-one cc)
   decided-ran zero true e = absurd (zero-one cc)
   decided-ran zero false e = (refl, refl)
 
-module _ (store main local : List ℕ) (s : State) where
-  pub stopped-exactly : (cycleOf store main local s .answer ≡ Stopped s) ↔ (None (cycleChecks store main local s) × (stops (fieldsOf (wordAt store s)) ≡ true))
+module _ (reading : Reading) (store main local : List ℕ) (s : State) where
+  pub stopped-exactly : (cycleOf reading store main local s .answer ≡ Stopped s) ↔ (None (cycleChecks reading store main local s) × (stops (fieldsOf (wordAt store s)) ≡ true))
   unfolding cycleOf
   stopped-exactly =
       let f : Fields = fieldsOf (wordAt store s) in
-      let cs : List Check = cycleChecks store main local s in (
-        λ e. let (none, stop) = decided-stopped f main local s s (first cs) (stops f) e in (first-none cs tt none, stop),
-        λ h. λ i. decided (none-first cs (h .0) i) (h .1 i) f main local s .answer,
+      let cs : List Check = cycleChecks reading store main local s in (
+        λ e. let (none, stop) = decided-stopped reading f main local s s (first cs) (stops f) e in (first-none cs tt none, stop),
+        λ h. λ i. decided reading (none-first cs (h .0) i) (h .1 i) f main local s .answer,
       )
 
-  pub ran-exactly : ((t : State) × (cycleOf store main local s .answer ≡ Ran t)) ↔ (None (cycleChecks store main local s) × (stops (fieldsOf (wordAt store s)) ≡ false))
+  pub ran-exactly : ((t : State) × (cycleOf reading store main local s .answer ≡ Ran t)) ↔ (None (cycleChecks reading store main local s) × (stops (fieldsOf (wordAt store s)) ≡ false))
   unfolding cycleOf
   ran-exactly =
       let f : Fields = fieldsOf (wordAt store s) in
-      let cs : List Check = cycleChecks store main local s in (
-        λ w. let (none, on) = decided-ran f main local s (w .0) (first cs) (stops f) (w .1) in (first-none cs tt none, on),
-        λ h. let (t, r) = ran-ran f main local s in (t, (λ i. decided (none-first cs (h .0) i) (h .1 i) f main local s .answer) ∙ r),
+      let cs : List Check = cycleChecks reading store main local s in (
+        λ w. let (none, on) = decided-ran reading f main local s (w .0) (first cs) (stops f) (w .1) in (first-none cs tt none, on),
+        λ h. let (t, r) = ran-ran reading f main local s in (t, (λ i. decided reading (none-first cs (h .0) i) (h .1 i) f main local s .answer) ∙ r),
       )
 
   -- what it then does is what the fields of its word do
-  pub ran-fields : (t : State) → cycleOf store main local s .answer ≡ Ran t → cycleOf store main local s ≡ ranOf (fieldsOf (wordAt store s)) main local s
+  pub ran-fields : (t : State) → cycleOf reading store main local s .answer ≡ Ran t → cycleOf reading store main local s ≡ ranOf reading (fieldsOf (wordAt store s)) main local s
   unfolding cycleOf
   ran-fields t e =
       let f : Fields = fieldsOf (wordAt store s) in
       let (none, on) = ran-exactly .0 (t, e) in
-      λ i. decided (none-first (cycleChecks store main local s) none i) (on i) f main local s
+      λ i. decided reading (none-first (cycleChecks reading store main local s) none i) (on i) f main local s
 
 -- ---- what is shown of the word that would run next is the work of its cycle
 
-module _ (store main local : List ℕ) (s : State) where
-  apart-is : None (cycleChecks store main local s) → takenApart (wordAt store s) (s .wx) ≡ A.Fields (fieldsOf (wordAt store s))
+module _ (reading : Reading) (store main local : List ℕ) (s : State) where
+  apart-is : None (cycleChecks reading store main local s) → takenApart (wordAt store s) (s .wx) ≡ A.Fields (fieldsOf (wordAt store s))
   unfolding takenApart
   apart-is none =
       let faults : List Check = faultChecks (wordAt store s) (s .wx) (lineOf (wordAt store s)) in
-      let (good, rest) = each-split (λ (c : Check). c .1 ≡ false) faults (stepChecks (fieldsOf (wordAt store s)) (length main) s) (none .1 .1) in
+      let (good, rest) = each-split (λ (c : Check). c .1 ≡ false) faults (stepChecks reading (fieldsOf (wordAt store s)) (length main) s) (none .1 .1) in
       accepts A.Refused (A.Fields (fieldsOf (wordAt store s))) (first (apartChecks (wordAt store s) (s .wx) (lineOf (wordAt store s))))
       (rw (le-ltb 4095 (s .wx) (address-fits (length store) (length main) (length local) (s .wx) (none .0) (none .1 .0))) (none-first faults good))
 
-  pub ran-shown : (t : State) → cycleOf store main local s .answer ≡ Ran t → nextSumOf store s ≡ Sums (workIn (fieldsOf (wordAt store s)) (entered (fieldsOf (wordAt store s)) s))
+  pub ran-shown : (t : State) → cycleOf reading store main local s .answer ≡ Ran t → nextSumOf store s ≡ Sums (workIn (fieldsOf (wordAt store s)) (entered (fieldsOf (wordAt store s)) s))
   unfolding nextSumOf
   ran-shown t e =
-      let (none, on) = ran-exactly store main local s .0 (t, e) in
+      let (none, on) = ran-exactly reading store main local s .0 (t, e) in
       rw (none .1 .0, apart-is none, on)
 
 -- ---- what a refusal and a stop leave: everything
@@ -127,29 +128,29 @@ pub record Kept (main local : List ℕ) (s t : State) (o : Outcome Cycled) : Typ
   pub in-main : o .main ≡ main
   pub in-local : o .local ≡ local
 
-module _ (f : Fields) (main local : List ℕ) (s t : State) where
-  refused-keeps : (k : ℕ) (stop : Bool) (n g : ℕ) → decided k stop f main local s .answer ≡ Refused t n g → Kept main local s t (decided k stop f main local s)
+module _ (reading : Reading) (f : Fields) (main local : List ℕ) (s t : State) where
+  refused-keeps : (k : ℕ) (stop : Bool) (n g : ℕ) → decided reading k stop f main local s .answer ≡ Refused t n g → Kept main local s t (decided reading k stop f main local s)
   refused-keeps (suc k) stop n g e = record { state = cc; in-main = refl; in-local = refl }
   refused-keeps zero true n g e = absurd (zero-one cc)
-  refused-keeps zero false n g e = absurd (ran-not-refused f main local s t n g e)
+  refused-keeps zero false n g e = absurd (ran-not-refused reading f main local s t n g e)
 
-  stopped-keeps : (k : ℕ) (stop : Bool) → decided k stop f main local s .answer ≡ Stopped t → Kept main local s t (decided k stop f main local s)
+  stopped-keeps : (k : ℕ) (stop : Bool) → decided reading k stop f main local s .answer ≡ Stopped t → Kept main local s t (decided reading k stop f main local s)
   stopped-keeps (suc k) stop e = absurd (zero-one cc)
   stopped-keeps zero true e = record { state = cc; in-main = refl; in-local = refl }
-  stopped-keeps zero false e = absurd (ran-not-stopped f main local s t e)
+  stopped-keeps zero false e = absurd (ran-not-stopped reading f main local s t e)
 
-module _ (store main local : List ℕ) (s t : State) where
-  pub refusal-keeps : (n g : ℕ) → cycleOf store main local s .answer ≡ Refused t n g → Kept main local s t (cycleOf store main local s)
+module _ (reading : Reading) (store main local : List ℕ) (s t : State) where
+  pub refusal-keeps : (n g : ℕ) → cycleOf reading store main local s .answer ≡ Refused t n g → Kept main local s t (cycleOf reading store main local s)
   unfolding cycleOf
   refusal-keeps n g e =
       let f : Fields = fieldsOf (wordAt store s) in
-      refused-keeps f main local s t (first (cycleChecks store main local s)) (stops f) n g e
+      refused-keeps reading f main local s t (first (cycleChecks reading store main local s)) (stops f) n g e
 
-  pub stop-keeps : cycleOf store main local s .answer ≡ Stopped t → Kept main local s t (cycleOf store main local s)
+  pub stop-keeps : cycleOf reading store main local s .answer ≡ Stopped t → Kept main local s t (cycleOf reading store main local s)
   unfolding cycleOf
   stop-keeps e =
       let f : Fields = fieldsOf (wordAt store s) in
-      stopped-keeps f main local s t (first (cycleChecks store main local s)) (stops f) e
+      stopped-keeps reading f main local s t (first (cycleChecks reading store main local s)) (stops f) e
 
 -- ---- the storages keep their sizes, whatever the answer
 
@@ -161,69 +162,69 @@ put-size : (l : List ℕ) (at r : ℕ) (puts : Bool) → length (cond puts (set 
 put-size l at r true = length-set l at r
 put-size l at r false = refl
 
-ran-sizes : (f : Fields) (main local : List ℕ) (s : State) → SameSizes main local (ranOf f main local s)
+ran-sizes : (reading : Reading) (f : Fields) (main local : List ℕ) (s : State) → SameSizes main local (ranOf reading f main local s)
 unfolding ranOf
-ran-sizes f main local s =
+ran-sizes reading f main local s =
     let e : State = entered f s in
     let a : Access = accessOf f e in
     record { of-main = put-size main (mainAddress a) (e .r) (a .puts && not (a .local)); of-local = put-size local (a .n) (e .r) (a .puts && a .local) }
 
-decided-sizes : (n : ℕ) (stop : Bool) (f : Fields) (main local : List ℕ) (s : State) → SameSizes main local (decided n stop f main local s)
-decided-sizes (suc n) stop f main local s = record { of-main = refl; of-local = refl }
-decided-sizes zero true f main local s = record { of-main = refl; of-local = refl }
-decided-sizes zero false f main local s = ran-sizes f main local s
+decided-sizes : (reading : Reading) (n : ℕ) (stop : Bool) (f : Fields) (main local : List ℕ) (s : State) → SameSizes main local (decided reading n stop f main local s)
+decided-sizes reading (suc n) stop f main local s = record { of-main = refl; of-local = refl }
+decided-sizes reading zero true f main local s = record { of-main = refl; of-local = refl }
+decided-sizes reading zero false f main local s = ran-sizes reading f main local s
 
-pub sizes-stay : (store main local : List ℕ) (s : State) → SameSizes main local (cycleOf store main local s)
+pub sizes-stay : (reading : Reading) (store main local : List ℕ) (s : State) → SameSizes main local (cycleOf reading store main local s)
 unfolding cycleOf
-sizes-stay store main local s = decided-sizes (first (cycleChecks store main local s)) (stops (fieldsOf (wordAt store s))) (fieldsOf (wordAt store s)) main local s
+sizes-stay reading store main local s = decided-sizes reading (first (cycleChecks reading store main local s)) (stops (fieldsOf (wordAt store s))) (fieldsOf (wordAt store s)) main local s
 
 -- with wrong sizes a cycle is refused by 1
-pub refused-by-1 : (store main local : List ℕ) (s : State) → sizesWrong (length store) (length main) (length local) ≡ true → outcome (Refused s 1 0) main local ≡ cycleOf store main local s
+pub refused-by-1 : (reading : Reading) (store main local : List ℕ) (s : State) → sizesWrong (length store) (length main) (length local) ≡ true → outcome (Refused s 1 0) main local ≡ cycleOf reading store main local s
 unfolding cycleOf
-refused-by-1 store main local s wrong = rw wrong
+refused-by-1 reading store main local s wrong = rw wrong
 
 -- with right ones it is not; and 22 is given by no cycle
-pub never-1 : (store main local : List ℕ) (s : State) → sizesWrong (length store) (length main) (length local) ≡ false → refusalNumber (cycleOf store main local s .answer) ≡ 1 → ⊥
+pub never-1 : (reading : Reading) (store main local : List ℕ) (s : State) → sizesWrong (length store) (length main) (length local) ≡ false → refusalNumber (cycleOf reading store main local s .answer) ≡ 1 → ⊥
 unfolding cycleOf
-never-1 store main local s right e =
+never-1 reading store main local s right e =
     let f : Fields = fieldsOf (wordAt store s) in
-    let later : List Check = (2, leb (length store) (s .wx)) ∷ (faultChecks (wordAt store s) (s .wx) (lineOf (wordAt store s)) ++ stepChecks f (length main) s) in
-    never 1 later tt (λ z. omega arith) (ap (λ (b : Bool). cond b 1 (first later)) (sym right) ∙ sym (decided-number (first (cycleChecks store main local s)) (stops f) f main local s) ∙ e)
+    let later : List Check = (2, leb (length store) (s .wx)) ∷ (faultChecks (wordAt store s) (s .wx) (lineOf (wordAt store s)) ++ stepChecks reading f (length main) s) in
+    never 1 later tt (λ z. omega arith) (ap (λ (b : Bool). cond b 1 (first later)) (sym right) ∙ sym (decided-number reading (first (cycleChecks reading store main local s)) (stops f) f main local s) ∙ e)
 
-pub never-22 : (store main local : List ℕ) (s : State) → refusalNumber (cycleOf store main local s .answer) ≡ 22 → ⊥
+pub never-22 : (reading : Reading) (store main local : List ℕ) (s : State) → refusalNumber (cycleOf reading store main local s .answer) ≡ 22 → ⊥
 unfolding cycleOf
-never-22 store main local s e =
+never-22 reading store main local s e =
     let f : Fields = fieldsOf (wordAt store s) in
-    never 22 (cycleChecks store main local s) tt (λ z. omega arith) (sym (decided-number (first (cycleChecks store main local s)) (stops f) f main local s) ∙ e)
+    never 22 (cycleChecks reading store main local s) tt (λ z. omega arith) (sym (decided-number reading (first (cycleChecks reading store main local s)) (stops f) f main local s) ∙ e)
 
 -- ---- a refusal's number and field are bytes
 
-unmodelled-small : (f : Fields) → unmodelledOf f < 256
+unmodelled-small : (reading : Reading) (f : Fields) → unmodelledOf reading f < 256
 unfolding unmodelledOf
-unmodelled-small f = first-lt 256 (map rowCheck (codeRows f)) (omega arith) tt
+unmodelled-small reading f = first-lt 256 (map rowCheck (codeRows reading f)) (omega arith) tt
 
-field-small : (at-10 : Bool) (f : Fields) → cond at-10 (unmodelledOf f) 0 < 256
-field-small true f = unmodelled-small f
-field-small false f = omega arith
+field-small : (reading : Reading) (at-10 : Bool) (f : Fields) → cond at-10 (unmodelledOf reading f) 0 < 256
+field-small reading true f = unmodelled-small reading f
+field-small reading false f = omega arith
 
-module _ (store main local : List ℕ) (s t : State) (n g : ℕ) where
-  decided-small : (k : ℕ) (stop : Bool) (f : Fields) → k < 256 → decided k stop f main local s .answer ≡ Refused t n g → (n < 256) × (g < 256)
+module _ (reading : Reading) (store main local : List ℕ) (s t : State) (n g : ℕ) where
+  decided-small : (k : ℕ) (stop : Bool) (f : Fields) → k < 256 → decided reading k stop f main local s .answer ≡ Refused t n g → (n < 256) × (g < 256)
   decided-small (suc k) stop f h e =
       let same : suc k ≡ n = cc in
-      let field : fieldOf (suc k) f ≡ g = cc in
-      (subst (λ (x : ℕ). x < 256) same h, subst (λ (x : ℕ). x < 256) field (field-small (eqb (suc k) 10) f))
+      let field : fieldOf reading (suc k) f ≡ g = cc in
+      (subst (λ (x : ℕ). x < 256) same h, subst (λ (x : ℕ). x < 256) field (field-small reading (eqb (suc k) 10) f))
   decided-small zero true f h e = absurd (zero-one cc)
-  decided-small zero false f h e = absurd (ran-not-refused f main local s t n g e)
+  decided-small zero false f h e = absurd (ran-not-refused reading f main local s t n g e)
 
-  pub refusal-small : cycleOf store main local s .answer ≡ Refused t n g → (n < 256) × (g < 256)
+  pub refusal-small : cycleOf reading store main local s .answer ≡ Refused t n g → (n < 256) × (g < 256)
   unfolding cycleOf
   refusal-small e =
       let f : Fields = fieldsOf (wordAt store s) in
-      decided-small (first (cycleChecks store main local s)) (stops f) f (first-lt 256 (cycleChecks store main local s) (omega arith) tt) e
+      decided-small (first (cycleChecks reading store main local s)) (stops f) f (first-lt 256 (cycleChecks reading store main local s) (omega arith) tt) e
 
 -- ---- no second answer fits, nor a second storage. The promise names no correction, so the cycle by table is the cycle by rule
 
-pub cycle-sole : (κs : _) (args : _) (r q : Cycled) (x y : _) → cycle.Post κs args r x → cycle.Post κs args q y → outcome r (now (x .1 .0)) (now (x .1 .1 .0)) ≡ outcome q (now (y .1 .0)) (now (y .1 .1 .0))
+pub cycle-sole : (κs : _) (args : _) (r q : Cycled) (x y : _) → cycle.Post κs args r x → cycle.Post κs args q y → outcome r (now (x .1 .1 .0)) (now (x .1 .1 .1 .0)) ≡ outcome q (now (y .1 .1 .0)) (now (y .1 .1 .1 .0))
 cycle-sole κs args r q x y a b = sole a b
 
 pub next-sum-sole : (κs : _) (args : _) (r q : NextSum) (x y : _) → next-sum.Post κs args r x → next-sum.Post κs args q y → r ≡ q

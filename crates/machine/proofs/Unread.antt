@@ -6,6 +6,7 @@ use mathlib.Core.Bool.{Bool, true, false}
 use Rattle.digits.specs.Refusal.{first}
 use Rattle.word.specs.Layout.{fieldsOf}
 use Rattle.word.specs.declared.Fields.{Fields}
+use Rattle.codes.specs.declared.Reading.{Reading}
 use Rattle.machine.specs.Sources.{entered, sumIn}
 use Rattle.machine.specs.Branch.{nextOf}
 use Rattle.machine.specs.Storage.{accessOf}
@@ -17,19 +18,19 @@ use Rattle.machine.specs.declared.Cycled.{Cycled}
 abbrev outcomeWith : Bool → Bool → Outcome Cycled → Outcome Cycled
 outcomeWith carry invalid o = outcome (answerWith carry invalid (o .answer)) (o .main) (o .local)
 
-module _ (carry invalid : Bool) (f : Fields) (main local : List ℕ) (s : State) where
-  ran-unread : outcomeWith carry invalid (ranOf f main local s) ≡ ranOf f main local (withLamps carry invalid s)
+module _ (reading : Reading) (carry invalid : Bool) (f : Fields) (main local : List ℕ) (s : State) where
+  ran-unread : outcomeWith carry invalid (ranOf reading f main local s) ≡ ranOf reading f main local (withLamps carry invalid s)
   unfolding ranOf entered sumIn nextOf accessOf
   ran-unread = refl
 
-  decided-unread : (n : ℕ) (stop : Bool) → outcomeWith carry invalid (decided n stop f main local s) ≡ decided n stop f main local (withLamps carry invalid s)
+  decided-unread : (n : ℕ) (stop : Bool) → outcomeWith carry invalid (decided reading n stop f main local s) ≡ decided reading n stop f main local (withLamps carry invalid s)
   decided-unread (suc n) stop = refl
   decided-unread zero true = refl
   decided-unread zero false = ran-unread
 
 pub cycle-unread : CycleUnread
 unfolding cycleOf entered accessOf
-cycle-unread store main local s carry invalid o e =
+cycle-unread reading store main local s carry invalid o e =
     let f : Fields = fieldsOf (wordAt store s) in
     ap (outcomeWith carry invalid) e
-    ∙ decided-unread carry invalid f main local s (first (cycleChecks store main local s)) (stops f)
+    ∙ decided-unread reading carry invalid f main local s (first (cycleChecks reading store main local s)) (stops f)

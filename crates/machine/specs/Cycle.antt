@@ -12,12 +12,13 @@ use Rattle.word.specs.Word.{faultChecks, takenApart}
 use Rattle.word.specs.declared.Apart.{Apart}
 use Rattle.word.specs.declared.Apart.the-variants as A
 use Rattle.word.specs.declared.Fields.{Fields}
+use Rattle.codes.specs.Modelled.{unmodelledOf}
+use Rattle.codes.specs.declared.Reading.{Reading}
 use Rattle.adder.specs.declared.Sum.{Sum}
 use Rattle.machine.specs.Sources.{entered, sumIn, workIn}
 use Rattle.machine.specs.Branch.{nextOf}
 use Rattle.machine.specs.Storage.{accessOf, outside, fetchedOf, mainAfter, localAfter}
 use Rattle.machine.specs.Status.{into, statusOf}
-use Rattle.machine.specs.Modelled.{unmodelledOf}
 use Rattle.machine.specs.declared.State.{State}
 use Rattle.machine.specs.declared.Access.{Access}
 use Rattle.machine.specs.declared.Cycled.{Cycled}
@@ -43,26 +44,26 @@ abbrev pub accessIn : Fields → State → Access
 accessIn f s = accessOf f (entered f s)
 
 -- "Stop is decided after 9 and before 10"
-abbrev pub stepChecks : Fields → ℕ → State → List Check
-stepChecks f main s =
-    (10, not (stops f) && not (eqb (unmodelledOf f) 0)) ∷
+abbrev pub stepChecks : Reading → Fields → ℕ → State → List Check
+stepChecks reading f main s =
+    (10, not (stops f) && not (eqb (unmodelledOf reading f) 0)) ∷
     (11, not (stops f) && outside main (accessIn f s)) ∷
     []
 
 abbrev pub wordAt : List ℕ → State → ℕ
 wordAt store s = getD store (s .wx) 0
 
--- the refusals in the order checked: 1, 2, 3 to 9, 10, 11
-abbrev pub cycleChecks : List ℕ → List ℕ → List ℕ → State → List Check
-cycleChecks store main local s =
+-- the refusals in the order checked: 1, 2, 3 to 9, 10, 11. The reading goes with the store
+abbrev pub cycleChecks : Reading → List ℕ → List ℕ → List ℕ → State → List Check
+cycleChecks reading store main local s =
     (1, sizesWrong (length store) (length main) (length local)) ∷
     (2, leb (length store) (s .wx)) ∷
-    (faultChecks (wordAt store s) (s .wx) (lineOf (wordAt store s)) ++ stepChecks (fieldsOf (wordAt store s)) (length main) s)
+    (faultChecks (wordAt store s) (s .wx) (lineOf (wordAt store s)) ++ stepChecks reading (fieldsOf (wordAt store s)) (length main) s)
 
 -- "e. The result goes to the CD register; then CS changes S; then S3 takes the new AC if CC saves it. Last, WX."
 -- s has the arriving byte in R, z is the adder's answer, a is what storage does
-abbrev pub after : Fields → Sum → Access → ℕ → State → State
-after f z a fetched s =
+abbrev pub after : Reading → Fields → Sum → Access → ℕ → State → State
+after reading f z a fetched s =
     record {
       -- "CD: 0 nowhere, 5 H, 6 S, 7 R, and 8 to 15 as CA"
       i = into 15 (f .cd) (z .result) (s .i);
@@ -73,12 +74,12 @@ after f z a fetched s =
       t = into 11 (f .cd) (z .result) (s .t);
       d = into 8 (f .cd) (z .result) (s .d);
       r = into 7 (f .cd) (z .result) (s .r);
-      s = statusOf f z (into 6 (f .cd) (z .result) (s .s));
+      s = statusOf reading f z (into 6 (f .cd) (z .result) (s .s));
       g = into 10 (f .cd) (z .result) (s .g);
       h = into 5 (f .cd) (z .result) (s .h);
       m = a .m;
       n = a .n;
-      wx = nextOf f s;
+      wx = nextOf reading f s;
       -- "AC, 1BC and Z0 are set from it."
       ac = z .ac;
       «one_bc» = z .«one_bc»;
@@ -96,30 +97,30 @@ after f z a fetched s =
     }
 
 -- a to e: what the fields do
-unfoldable pub ranOf : Fields → List ℕ → List ℕ → State → Outcome Cycled
-ranOf f main local s =
+unfoldable pub ranOf : Reading → Fields → List ℕ → List ℕ → State → Outcome Cycled
+ranOf reading f main local s =
     let e : State = entered f s in
     let a : Access = accessOf f e in
-    outcome (Ran (after f (sumIn f e) a (fetchedOf main local a) e)) (mainAfter main a (e .r)) (localAfter local a (e .r))
+    outcome (Ran (after reading f (sumIn f e) a (fetchedOf main local a) e)) (mainAfter main a (e .r)) (localAfter local a (e .r))
 
 -- 10 comes with its field, every other number with 0
-abbrev pub fieldOf : ℕ → Fields → ℕ
-fieldOf number f = cond (eqb number 10) (unmodelledOf f) 0
+abbrev pub fieldOf : Reading → ℕ → Fields → ℕ
+fieldOf reading number f = cond (eqb number 10) (unmodelledOf reading f) 0
 
 -- "A cycle answers ran, stopped or refused, each with its state." Stop and "refusals change nothing"
-abbrev pub decided : ℕ → Bool → Fields → List ℕ → List ℕ → State → Outcome Cycled
-decided (suc number) stop f main local s = outcome (Refused s (suc number) (fieldOf (suc number) f)) main local
-decided zero true f main local s = outcome (Stopped s) main local
-decided zero false f main local s = ranOf f main local s
+abbrev pub decided : Reading → ℕ → Bool → Fields → List ℕ → List ℕ → State → Outcome Cycled
+decided reading (suc number) stop f main local s = outcome (Refused s (suc number) (fieldOf reading (suc number) f)) main local
+decided reading zero true f main local s = outcome (Stopped s) main local
+decided reading zero false f main local s = ranOf reading f main local s
 
 -- from the fields on
-abbrev pub stepOf : Fields → List ℕ → List ℕ → State → Outcome Cycled
-stepOf f main local s = decided (first (stepChecks f (length main) s)) (stops f) f main local s
+abbrev pub stepOf : Reading → Fields → List ℕ → List ℕ → State → Outcome Cycled
+stepOf reading f main local s = decided reading (first (stepChecks reading f (length main) s)) (stops f) f main local s
 
-unfoldable pub cycleOf : List ℕ → List ℕ → List ℕ → State → Outcome Cycled
-cycleOf store main local s =
+unfoldable pub cycleOf : Reading → List ℕ → List ℕ → List ℕ → State → Outcome Cycled
+cycleOf reading store main local s =
     let f : Fields = fieldsOf (wordAt store s) in
-    decided (first (cycleChecks store main local s)) (stops f) f main local s
+    decided reading (first (cycleChecks reading store main local s)) (stops f) f main local s
 
 -- the paper's number of each answer, 0 where it does not refuse
 abbrev pub refusalNumber : Cycled → ℕ

@@ -21,8 +21,8 @@ readsLocal cu s =
 
 -- "If the latch is off, the read fetches a byte that becomes the arriving byte and turns the latch on. If it is on, only the address and
 -- kind are replaced."
-abbrev pub reading : ℕ → ℕ → Bool → State → Access
-reading m n local s = record { m = m; n = n; local = local; latch = true; fetches = not (s .«allow_write»); puts = false }
+abbrev pub readsAt : ℕ → ℕ → Bool → State → Access
+readsAt m n local s = record { m = m; n = n; local = local; latch = true; fetches = not (s .«allow_write»); puts = false }
 
 -- "Write and Store with the latch on put R at the present address and kind and turn the latch off; with it off they touch no storage."
 abbrev pub writing : State → Access
@@ -38,9 +38,9 @@ accesses local s =
     writing s ∷  -- 0
     idle s ∷  -- 1
     writing s ∷  -- 2
-    reading (s .i) (s .j) local s ∷  -- 3
-    reading (s .u) (s .v) local s ∷  -- 4
-    reading (cond local (s .m) (s .l)) (s .t) local s ∷  -- 5
+    readsAt (s .i) (s .j) local s ∷  -- 3
+    readsAt (s .u) (s .v) local s ∷  -- 4
+    readsAt (cond local (s .m) (s .l)) (s .t) local s ∷  -- 5
     []
 
 -- the address, the kind and the latch after the step, and what it does

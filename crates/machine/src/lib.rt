@@ -1,6 +1,5 @@
 // The machine: its state, and one cycle of it.
 mod branch;
-mod modelled;
 mod sources;
 mod status;
 mod storage;
@@ -12,6 +11,7 @@ ghost use lib.ListN.{length};
 ghost use Rattle.machine.specs.Cycle.{outcome, after, stepOf, cycleOf, sumBy, nextSumOf};
 use adder::Sum;
 use adder::Work;
+use codes::Reading;
 use word::Apart;
 use word::Fields;
 
@@ -69,9 +69,9 @@ pub enum NextSum {
 }
 
 // e. The state after the word. `s` has the arriving byte in R.
-fn after(f: Fields, z: Sum, a: Access, fetched: u8, s: State) -> State
+fn after(reading: Reading, f: Fields, z: Sum, a: Access, fetched: u8, s: State) -> State
     requires { ⌜ f .cn < 64 ⌝ }
-    ensures { λ r. ⌜ r ≡ after f z a fetched s ⌝ }
+    ensures { λ r. ⌜ r ≡ after reading f z a fetched s ⌝ }
 {
     State {
         i: status::into(15, f.cd, z.result, s.i),
@@ -82,12 +82,12 @@ fn after(f: Fields, z: Sum, a: Access, fetched: u8, s: State) -> State
         t: status::into(11, f.cd, z.result, s.t),
         d: status::into(8, f.cd, z.result, s.d),
         r: status::into(7, f.cd, z.result, s.r),
-        s: status::status(f, z, status::into(6, f.cd, z.result, s.s)),
+        s: status::status(reading, f, z, status::into(6, f.cd, z.result, s.s)),
         g: status::into(10, f.cd, z.result, s.g),
         h: status::into(5, f.cd, z.result, s.h),
         m: a.m,
         n: a.n,
-        wx: branch::next_of(f, s),
+        wx: branch::next_of(reading, f, s),
         ac: z.ac,
         one_bc: z.one_bc,
         z0: z.z0,
@@ -104,11 +104,11 @@ fn after(f: Fields, z: Sum, a: Access, fetched: u8, s: State) -> State
 
 // What the fields of a word do: decide everything, then make at most one store. One expression, since a return from its middle
 // costs a cycle a copy of its answer.
-fn step(f: Fields, main: &mut [u8], local: &mut [u8], s: State) -> Cycled
+fn step(reading: Reading, f: Fields, main: &mut [u8], local: &mut [u8], s: State) -> Cycled
     requires { ⌜ (f .cn < 64) × ((f .ck < 16) × (length (now local) ≡ 256)) ⌝ }
-    ensures { λ r. ⌜ outcome r (now (main .exit)) (now (local .exit)) ≡ stepOf f (now (main .entry)) (now (local .entry)) s ⌝ }
+    ensures { λ r. ⌜ outcome r (now (main .exit)) (now (local .exit)) ≡ stepOf reading f (now (main .entry)) (now (local .entry)) s ⌝ }
 {
-    let field = modelled::unmodelled(f);
+    let field = codes::unmodelled(reading, f);
     let entered = sources::enter(f, s);
     let z = sources::sum_in(f, entered);
     let access = storage::access_of(f, entered);
@@ -121,13 +121,19 @@ fn step(f: Fields, main: &mut [u8], local: &mut [u8], s: State) -> Cycled
     } else {
         let fetched = storage::fetched(main, local, access);
         storage::put(main, local, access, entered.r);
-        Cycled::Ran(after(f, z, access, fetched, entered))
+        Cycled::Ran(after(reading, f, z, access, fetched, entered))
     }
 }
 
-// One cycle.
-pub fn cycle(store: &[u64], main: &mut [u8], local: &mut [u8], state: State) -> Cycled
-    ensures { λ r. ⌜ outcome r (now (main .exit)) (now (local .exit)) ≡ cycleOf (now (store .entry)) (now (main .entry)) (now (local .entry)) state ⌝ }
+// One cycle, of the store's word at WX under a reading.
+pub fn cycle(
+    reading: Reading,
+    store: &[u64],
+    main: &mut [u8],
+    local: &mut [u8],
+    state: State,
+) -> Cycled
+    ensures { λ r. ⌜ outcome r (now (main .exit)) (now (local .exit)) ≡ cycleOf reading (now (store .entry)) (now (main .entry)) (now (local .entry)) state ⌝ }
 {
     if digits::sizes_wrong(store.len(), main.len(), local.len()) {
         return Cycled::Refused(state, 1, 0);
@@ -141,7 +147,7 @@ pub fn cycle(store: &[u64], main: &mut [u8], local: &mut [u8], state: State) -> 
     if number != 0 {
         return Cycled::Refused(state, number, 0);
     }
-    step(word::fields_of(word), main, local, state)
+    step(reading, word::fields_of(word), main, local, state)
 }
 
 // The work of the word that would run next: what is chosen, gated and summed, step by step.

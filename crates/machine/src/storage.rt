@@ -2,7 +2,7 @@
 ghost use mathlib.Core.Path.{_≡_};
 ghost use mathlib.Core.Bool.{false};
 ghost use lib.ListN.{length};
-ghost use Rattle.machine.specs.Storage.{readsLocal, reading, writing, idle, accessOf, outside, fetchedOf, mainAfter, localAfter};
+ghost use Rattle.machine.specs.Storage.{readsLocal, readsAt, writing, idle, accessOf, outside, fetchedOf, mainAfter, localAfter};
 use crate::Access;
 use crate::State;
 use digits::bit;
@@ -21,8 +21,8 @@ fn reads_local(cu: u8, s: State) -> bool
     }
 }
 
-fn reading(m: u8, n: u8, local: bool, s: State) -> Access
-    ensures { λ r. ⌜ r ≡ reading m n local s ⌝ }
+fn reads_at(m: u8, n: u8, local: bool, s: State) -> Access
+    ensures { λ r. ⌜ r ≡ readsAt m n local s ⌝ }
 {
     Access {
         m: m,
@@ -70,9 +70,9 @@ pub(crate) fn access_of(f: Fields, s: State) -> Access
         0 => writing(s),
         1 => idle(s),
         2 => writing(s),
-        3 => reading(s.i, s.j, local, s),
-        4 => reading(s.u, s.v, local, s),
-        5 => reading(m, s.t, local, s),
+        3 => reads_at(s.i, s.j, local, s),
+        4 => reads_at(s.u, s.v, local, s),
+        5 => reads_at(m, s.t, local, s),
         _ => idle(s),
     }
 }

@@ -11,6 +11,7 @@ use lib.ListN.{length, length-append}
 use Rattle.digits.specs.Bits.{one}
 use Rattle.digits.specs.Lent.{over}
 use Rattle.digits.proofs.Truth.{either-way}
+use Rattle.codes.specs.declared.Reading.{Reading}
 use Rattle.machine.specs.Cycle.{Outcome, outcome, cycleOf}
 use Rattle.machine.specs.declared.State.{State}
 use Rattle.machine.specs.declared.Cycled.{Cycled}
@@ -22,7 +23,7 @@ use Rattle.run.specs.declared.Ending.{Ending}
 use Rattle.run.specs.declared.Ending.the-variants as E
 use Rattle.run.specs.declared.Finished.{Finished}
 use Rattle.run.proofs.Runs.{spent}
-use Rattle.run.proofs.Goes.{Machine, machine, goes-none}
+use Rattle.run.proofs.Goes.{Machine, machine, lawful, goes-none}
 use Rattle.run.proofs.Promises.{run-goes, count-within, Small, run-small}
 use Rattle.run.proofs.Divided.{divided, once, one-cycle}
 use Rattle.run.proofs.Quiet.{quiet-keeps}
@@ -80,15 +81,15 @@ still-long n s state long = by (eqb n 0)
     by false = let n = length-saved s in rw length-append (omega arith)
 
 -- and it has the state that the run came to
-loaded-after : (budget : ℕ) (store main local state : List ℕ) → let r : Outcome Finished = runOf budget store main local (loaded state) in
+loaded-after : (budget : ℕ) (reading : Reading) (store main local state : List ℕ) → let r : Outcome Finished = runOf budget reading store main local (loaded state) in
     loaded (recordAfter (r .answer .count) (r .answer .state) state) ≡ r .answer .state
-loaded-after budget store main local state = by (r .answer .count) refl
+loaded-after budget reading store main local state = by (r .answer .count) refl
   where
     r : Outcome Finished
-    r = runOf budget store main local (loaded state)
+    r = runOf budget reading store main local (loaded state)
 
     by : (n : ℕ) → r .answer .count ≡ n → loaded (recordAfter n (r .answer .state) state) ≡ r .answer .state
-    by zero e = sym (ap (λ (m : Machine). m .state) (goes-none (run-goes budget store main local (loaded state)) e))
+    by zero e = sym (ap (λ (m : Machine). m .state) (goes-none (run-goes (lawful reading store) budget main local (loaded state)) e))
     by (suc n) e = ap loaded (written (suc n) (r .answer .state) state (λ z. omega arith)) ∙ state-back (r .answer .state) state
 
 -- ---- the calls
@@ -121,18 +122,18 @@ from-runs b r q w state small-r small-q small-w still d =
 refused-alike : (b : ℕ) (c : Called) → cyclesIn (c .number) ≡ 0 → DividedCalls b c c c
 refused-alike b c none = record { in-state = refl; in-main = refl; in-local = refl; cycles = omega arith; code = either-way (eqb b 0) (codeIn (c .number)) }
 
-module _ (a b : ℕ) (store : List ℕ) (c : Called) where
+module _ (a b : ℕ) (reading : Reading) (store : List ℕ) (c : Called) where
   -- the second call, on what the first left, makes up the whole
   abbrev Divide : Called → Called → Type 0
-  Divide first whole = DividedCalls b first (pressRun b store first) whole
+  Divide first whole = DividedCalls b first (pressRun b reading store first) whole
 
   -- by what the second and the whole are
-  known : (first second whole : Called) → second ≡ pressRun b store first → whole ≡ pressRun (a + b) store c → DividedCalls b first second whole → Divide first (pressRun (a + b) store c)
+  known : (first second whole : Called) → second ≡ pressRun b reading store first → whole ≡ pressRun (a + b) reading store c → DividedCalls b first second whole → Divide first (pressRun (a + b) reading store c)
   known first second whole is-second is-whole d = subst (Divide first) is-whole (subst (λ (z : Called). DividedCalls b first z whole) is-second d)
 
 pub calls-divide : CallsDivide
-calls-divide a b store c most =
-    by-record store main local state a (λ (first : Called). Divide a b store c first (pressRun (a + b) store c)) refused ran
+calls-divide a b reading store c most =
+    by-record reading store main local state a (λ (first : Called). Divide a b reading store c first (pressRun (a + b) reading store c)) refused ran
   where
     main : List ℕ
     main = c .main
@@ -147,32 +148,32 @@ calls-divide a b store c most =
     s = loaded state
 
     r : Outcome Finished
-    r = runOf a store main local s
+    r = runOf a reading store main local s
 
     left : List ℕ
     left = recordAfter (r .answer .count) (r .answer .state) state
 
     q : Outcome Finished
-    q = runOf b store (r .main) (r .local) (loaded left)
+    q = runOf b reading store (r .main) (r .local) (loaded left)
 
     w : Outcome Finished
-    w = runOf (a + b) store main local s
+    w = runOf (a + b) reading store main local s
 
-    refused : length state < recordLength → Divide a b store c (short main local state) (pressRun (a + b) store c)
+    refused : length state < recordLength → Divide a b reading store c (short main local state) (pressRun (a + b) reading store c)
     refused h =
         let first : Called = short main local state in
-        known a b store c first first first (run-short store main local state b _ _ h refl refl) (run-short store main local state (a + b) _ _ h refl refl) (refused-alike b first refl)
+        known a b reading store c first first first (run-short reading store main local state b _ _ h refl refl) (run-short reading store main local state (a + b) _ _ h refl refl) (refused-alike b first refl)
 
-    ran : recordLength ≤ length state → Divide a b store c (ranBy r state) (pressRun (a + b) store c)
+    ran : recordLength ≤ length state → Divide a b reading store c (ranBy r state) (pressRun (a + b) reading store c)
     ran h =
-        let same = loaded-after a store main local state in
-        let goes = run-goes b store (r .main) (r .local) (loaded left) in
-        known a b store c (ranBy r state) (ranBy q left) (ranBy w state)
-        (run-else store (r .main) (r .local) left b (still-long (r .answer .count) (r .answer .state) state h))
-        (run-else store main local state (a + b) h)
-        (from-runs b r q w state (run-small a store main local s) (run-small b store (r .main) (r .local) (loaded left)) (run-small (a + b) store main local s)
+        let same = loaded-after a reading store main local state in
+        let goes = run-goes (lawful reading store) b (r .main) (r .local) (loaded left) in
+        known a b reading store c (ranBy r state) (ranBy q left) (ranBy w state)
+        (run-else reading store (r .main) (r .local) left b (still-long (r .answer .count) (r .answer .state) state h))
+        (run-else reading store main local state (a + b) h)
+        (from-runs b r q w state (run-small (lawful reading store) a main local s) (run-small (lawful reading store) b (r .main) (r .local) (loaded left)) (run-small (lawful reading store) (a + b) main local s)
         (λ none. ap (λ (m : Machine). m .state) (goes-none goes none) ∙ same)
-        (divided a b store main local s r q w most refl (ap (runOf b store (r .main) (r .local)) same) refl))
+        (divided reading a b store main local s r q w most refl (ap (runOf b reading store (r .main) (r .local)) same) refl))
 
 -- ---- the presses
 
@@ -184,50 +185,50 @@ shown c = called (counted (asEnding (c .number)) (one (eqb (c .number) RAN) + 0)
 abbrev pub asPress : ℕ → ℕ
 asPress code = cond (eqb code SPENT) RAN code
 
-as-run : (store : List ℕ) (r : Cycled) (main local state : List ℕ) → ranBy (once store (outcome r main local)) state ≡ shown (cycled r main local state)
-as-run store (C.Ran t) main local state = ap (λ (o : Outcome Finished). ranBy o state) (spent store main local t 1)
-as-run store (C.Stopped t) main local state = refl
-as-run store (C.Refused t number field) main local state = rw (ne-eqb (coded REFUSED number field) RAN (λ z. omega arith))
+as-run : (reading : Reading) (store : List ℕ) (r : Cycled) (main local state : List ℕ) → ranBy (once (cycleOf reading store) (outcome r main local)) state ≡ shown (cycled r main local state)
+as-run reading store (C.Ran t) main local state = ap (λ (o : Outcome Finished). ranBy o state) (spent (cycleOf reading store) main local t 1)
+as-run reading store (C.Stopped t) main local state = refl
+as-run reading store (C.Refused t number field) main local state = rw (ne-eqb (coded REFUSED number field) RAN (λ z. omega arith))
 
-press-is-run : (store main local state : List ℕ) → runCall store main local state 1 ≡ shown (cycleCall store main local state)
+press-is-run : (reading : Reading) (store main local state : List ℕ) → runCall reading store main local state 1 ≡ shown (cycleCall reading store main local state)
 unfolding runCall cycleCall
-press-is-run store main local state = by (ltb (length state) recordLength)
+press-is-run reading store main local state = by (ltb (length state) recordLength)
   where
     o : Outcome Cycled
-    o = cycleOf store main local (loaded state)
+    o = cycleOf reading store main local (loaded state)
 
-    by : (z : Bool) → cond z (short main local state) (ranBy (runOf 1 store main local (loaded state)) state) ≡ shown (cond z (short main local state) (cycledBy o state))
+    by : (z : Bool) → cond z (short main local state) (ranBy (runOf 1 reading store main local (loaded state)) state) ≡ shown (cond z (short main local state) (cycledBy o state))
     by true = refl
-    by false = ap (λ (r : Outcome Finished). ranBy r state) (one-cycle store (machine (loaded state) main local)) ∙ as-run store (o .answer) (o .main) (o .local) state
+    by false = ap (λ (r : Outcome Finished). ranBy r state) (one-cycle (lawful reading store) (machine (loaded state) main local)) ∙ as-run reading store (o .answer) (o .main) (o .local) state
 
 -- the number of a press: as the end of a run it is below 2^32, and it comes back from there
 abbrev Told : ℕ → Type 0
 Told code = (asEnding code < 2 ^ 32) × (asPress (asEnding code) ≡ code)
 
-module _ (store main local state : List ℕ) where
-  answer-told : (r : Cycled) → cycleOf store main local (loaded state) .answer ≡ r → (m l : List ℕ) → Told (cycled r m l state .number)
+module _ (reading : Reading) (store main local state : List ℕ) where
+  answer-told : (r : Cycled) → cycleOf reading store main local (loaded state) .answer ≡ r → (m l : List ℕ) → Told (cycled r m l state .number)
   answer-told (C.Ran t) e m l = (omega arith, refl)
   answer-told (C.Stopped t) e m l = (omega arith, refl)
   answer-told (C.Refused t number field) e m l =
-      let (n, f) = refusal-small store main local (loaded state) t number field e in
+      let (n, f) = refusal-small reading store main local (loaded state) t number field e in
       rw (ne-eqb (coded REFUSED number field) RAN (λ z. omega arith), ne-eqb (coded REFUSED number field) SPENT (λ z. omega arith)) (omega arith, refl)
 
-  press-told : Told (cycleCall store main local state .number)
+  press-told : Told (cycleCall reading store main local state .number)
   unfolding cycleCall
   press-told = by (ltb (length state) recordLength)
     where
       o : Outcome Cycled
-      o = cycleOf store main local (loaded state)
+      o = cycleOf reading store main local (loaded state)
 
       by : (z : Bool) → Told (cond z (short main local state) (cycledBy o state) .number)
       by true = (omega arith, refl)
       by false = answer-told (o .answer) refl (o .main) (o .local)
 
-  pub pressed : (number : ℕ) (m l out : List ℕ) → called number m l out ≡ runCall store main local state 1
-      → called (asPress (codeIn number)) m l out ≡ cycleCall store main local state
+  pub pressed : (number : ℕ) (m l out : List ℕ) → called number m l out ≡ runCall reading store main local state 1
+      → called (asPress (codeIn number)) m l out ≡ cycleCall reading store main local state
   pressed number m l out e =
-      let c : Called = cycleCall store main local state in
-      let all : called number m l out ≡ shown c = e ∙ press-is-run store main local state in
+      let c : Called = cycleCall reading store main local state in
+      let all : called number m l out ≡ shown c = e ∙ press-is-run reading store main local state in
       let code = ap (λ (z : Called). asPress (codeIn (z .number))) all ∙ ap asPress (code-in (asEnding (c .number)) _ (press-told .0)) ∙ press-told .1 in
       λ i. called (code i) (all i .main) (all i .local) (all i .state)
 
@@ -242,40 +243,40 @@ then-second b first whole code n ending ran main local state some is small d =
     sym (λ i. called (number i) (d .in-main i) (d .in-local i) (d .in-state i))
 
 -- the last press, with the number of the run
-abbrev inOne : ℕ → List ℕ → Called → Called
-inOne n store c =
-    let last : Called = presses n store c in
-    called (counted (asEnding (last .number)) (ranIn n store c)) (last .main) (last .local) (last .state)
+abbrev inOne : ℕ → Reading → List ℕ → Called → Called
+inOne n reading store c =
+    let last : Called = presses n reading store c in
+    called (counted (asEnding (last .number)) (ranIn n reading store c)) (last .main) (last .local) (last .state)
 
-some-presses : (n : ℕ) (store : List ℕ) (c : Called) → suc n ≤ 1000000 → pressRun (suc n) store c ≡ inOne (suc n) store c
-some-presses zero store c h = press-is-run store (c .main) (c .local) (c .state)
-some-presses (suc n) store c h =
-    let c1 : Called = pressCycle store c in
-    let last : Called = presses (suc n) store c1 in
-    let whole : Called = pressRun (1 + suc n) store c in
+some-presses : (n : ℕ) (reading : Reading) (store : List ℕ) (c : Called) → suc n ≤ 1000000 → pressRun (suc n) reading store c ≡ inOne (suc n) reading store c
+some-presses zero reading store c h = press-is-run reading store (c .main) (c .local) (c .state)
+some-presses (suc n) reading store c h =
+    let c1 : Called = pressCycle reading store c in
+    let last : Called = presses (suc n) reading store c1 in
+    let whole : Called = pressRun (1 + suc n) reading store c in
     let two : suc (suc n) ≡ 1 + suc n = omega arith in
-    let pressed = subst (λ (z : Called). Divide 1 (suc n) store c z whole) (press-is-run store (c .main) (c .local) (c .state)) (calls-divide 1 (suc n) store c (omega arith)) in
-    let known = subst (λ (z : Called). DividedCalls (suc n) (shown c1) z whole) (some-presses n store c1 (omega arith)) pressed in
-    ap (λ (k : ℕ). pressRun k store c) two
-    ∙ then-second (suc n) (shown c1) whole (asEnding (c1 .number)) (one (eqb (c1 .number) RAN)) (asEnding (last .number)) (ranIn (suc n) store c1) (last .main) (last .local) (last .state)
-    (λ z. omega arith) (ap (counted (asEnding (c1 .number))) (add-zero _)) (press-told store (c .main) (c .local) (c .state) .0) known
+    let pressed = subst (λ (z : Called). Divide 1 (suc n) reading store c z whole) (press-is-run reading store (c .main) (c .local) (c .state)) (calls-divide 1 (suc n) reading store c (omega arith)) in
+    let known = subst (λ (z : Called). DividedCalls (suc n) (shown c1) z whole) (some-presses n reading store c1 (omega arith)) pressed in
+    ap (λ (k : ℕ). pressRun k reading store c) two
+    ∙ then-second (suc n) (shown c1) whole (asEnding (c1 .number)) (one (eqb (c1 .number) RAN)) (asEnding (last .number)) (ranIn (suc n) reading store c1) (last .main) (last .local) (last .state)
+    (λ z. omega arith) (ap (counted (asEnding (c1 .number))) (add-zero _)) (press-told reading store (c .main) (c .local) (c .state) .0) known
 
 -- a budget of 0 touches nothing
-no-press : (store main local state : List ℕ) → Untouched main local state (runCall store main local state 0)
-no-press store main local state = run-keeps store main local state 0 (by-record store main local state 0 (λ (c : Called). c .number < 2 ^ 32) (λ h. omega arith) ran)
+no-press : (reading : Reading) (store main local state : List ℕ) → Untouched main local state (runCall reading store main local state 0)
+no-press reading store main local state = run-keeps reading store main local state 0 (by-record reading store main local state 0 (λ (c : Called). c .number < 2 ^ 32) (λ h. omega arith) ran)
   where
     r : Outcome Finished
-    r = runOf 0 store main local (loaded state)
+    r = runOf 0 reading store main local (loaded state)
 
     ran : recordLength ≤ length state → ranBy r state .number < 2 ^ 32
     ran h =
-        let code = code-small (r .answer .ending) (run-small 0 store main local (loaded state)) in
-        let none = count-within 0 store main local (loaded state) in
+        let code = code-small (r .answer .ending) (run-small (lawful reading store) 0 main local (loaded state)) in
+        let none = count-within (lawful reading store) 0 main local (loaded state) in
         omega arith
 
-shows : (n : ℕ) (store : List ℕ) (c : Called) (number : ℕ) → pressRun n store c ≡ called number (presses n store c .main) (presses n store c .local) (presses n store c .state)
-    → ((n ≡ 0 → ⊥) → counted (asEnding (presses n store c .number)) (ranIn n store c) ≡ number) → Shows n store c
-shows n store c number e is =
+shows : (n : ℕ) (reading : Reading) (store : List ℕ) (c : Called) (number : ℕ) → pressRun n reading store c ≡ called number (presses n reading store c .main) (presses n reading store c .local) (presses n reading store c .state)
+    → ((n ≡ 0 → ⊥) → counted (asEnding (presses n reading store c .number)) (ranIn n reading store c) ≡ number) → Shows n reading store c
+shows n reading store c number e is =
     record {
       in-state = sym (ap (λ (z : Called). z .state) e);
       in-main = sym (ap (λ (z : Called). z .main) e);
@@ -284,10 +285,10 @@ shows n store c number e is =
     }
 
 pub same-machine : SameMachine
-same-machine zero store c h = shows 0 store c _ (no-press store (c .main) (c .local) (c .state)) (λ some. absurd (some refl))
-same-machine (suc n) store c h = shows (suc n) store c _ (some-presses n store c h) (λ some. refl)
+same-machine zero reading store c h = shows 0 reading store c _ (no-press reading store (c .main) (c .local) (c .state)) (λ some. absurd (some refl))
+same-machine (suc n) reading store c h = shows (suc n) reading store c _ (some-presses n reading store c h) (λ some. refl)
 
 pub calls-quiet : CallsQuiet
-calls-quiet budget store c quiet =
-    by-record store (c .main) (c .local) (c .state) budget (λ (z : Called). (z .main ≡ c .main) × (z .local ≡ c .local)) (λ h. (refl, refl))
-    (λ h. quiet-keeps budget store (c .main) (c .local) (loaded (c .state)) _ quiet refl)
+calls-quiet budget reading store c quiet =
+    by-record reading store (c .main) (c .local) (c .state) budget (λ (z : Called). (z .main ≡ c .main) × (z .local ≡ c .local)) (λ h. (refl, refl))
+    (λ h. quiet-keeps reading budget store (c .main) (c .local) (loaded (c .state)) _ quiet refl)

@@ -15,6 +15,7 @@ use Rattle.word.specs.Word.{takenApart, packed}
 use Rattle.word.specs.declared.Fields.{Fields}
 use Rattle.word.specs.declared.Apart.{Apart}
 use Rattle.word.specs.declared.Packed.{Packed}
+use Rattle.codes.specs.declared.Reading.{Reading}
 use Rattle.machine.specs.Cycle.{Outcome, outcome, nextSumOf}
 use Rattle.machine.specs.declared.State.{State}
 use Rattle.trap.specs.Trap.{trapOf}
@@ -64,28 +65,31 @@ front (x ∷ l) w h = refl
 
 -- ---- a run
 
-module _ (store main local state : List ℕ) (budget : ℕ) where
-  pub run-short : (k r : ℕ) → length state < recordLength → k ≡ coded REFUSED 19 0 → r ≡ counted k 0 → called r main local state ≡ runCall store main local state budget
+module _ (reading : Reading) (store main local state : List ℕ) (budget : ℕ) where
+  pub run-short : (k r : ℕ) → length state < recordLength → k ≡ coded REFUSED 19 0 → r ≡ counted k 0 → called r main local state ≡ runCall reading store main local state budget
   unfolding runCall
   run-short k r h e q = rw (lt-ltb (length state) recordLength h, q, e)
 
-  pub run-else : recordLength ≤ length state → ranBy (runOf budget store main local (loaded state)) state ≡ runCall store main local state budget
+  pub run-else : recordLength ≤ length state → ranBy (runOf budget reading store main local (loaded state)) state ≡ runCall reading store main local state budget
   unfolding runCall
   run-else h = rw (le-ltb (length state) recordLength h)
 
   -- a call is refused by 19, or is its run
-  pub by-record : (P : Called → Type 0) → (length state < recordLength → P (short main local state)) → (recordLength ≤ length state → P (ranBy (runOf budget store main local (loaded state)) state))
-      → P (runCall store main local state budget)
+  pub by-record : (P : Called → Type 0) → (length state < recordLength → P (short main local state)) → (recordLength ≤ length state → P (ranBy (runOf budget reading store main local (loaded state)) state))
+      → P (runCall reading store main local state budget)
   by-record P refused ran = by (ltb (length state) recordLength) refl
     where
-      by : (b : Bool) → ltb (length state) recordLength ≡ b → P (runCall store main local state budget)
+      by : (b : Bool) → ltb (length state) recordLength ≡ b → P (runCall reading store main local state budget)
       by true e = let h = ltb-true (length state) recordLength e in subst P (run-short _ _ h refl refl) (refused h)
       by false e = let h = ltb-false (length state) recordLength e in subst P (run-else h) (ran h)
 
-  pub run-any : (m l out : List ℕ) (s : State) (f : Finished) (k r : ℕ) → recordLength ≤ length state → s ≡ loaded state → outcome f m l ≡ runOf budget store main local s
-      → out ≡ recordAfter (f .count) (f .state) state → k ≡ endingCode (f .ending) → r ≡ counted k (f .count) → called r m l out ≡ runCall store main local state budget
-  run-any m l out s f k r h in-state o p e q =
-      (λ i. called ((q ∙ ap (λ (x : ℕ). counted x (f .count)) e) i) m l (p i)) ∙ ap (λ (x : Outcome Finished). ranBy x state) (o ∙ ap (runOf budget store main local) in-state) ∙ run-else h
+  pub run-any : (m l out : List ℕ) (x : Reading) (s : State) (f : Finished) (k r : ℕ) → recordLength ≤ length state → x ≡ reading → s ≡ loaded state
+      → outcome f m l ≡ runOf budget x store main local s → out ≡ recordAfter (f .count) (f .state) state → k ≡ endingCode (f .ending) → r ≡ counted k (f .count)
+      → called r m l out ≡ runCall reading store main local state budget
+  run-any m l out x s f k r h read in-state o p e q =
+      (λ i. called ((q ∙ ap (λ (n : ℕ). counted n (f .count)) e) i) m l (p i))
+      ∙ ap (λ (z : Outcome Finished). ranBy z state) (o ∙ λ i. runOf budget (read i) store main local (in-state i))
+      ∙ run-else h
 
 -- ---- a trap
 

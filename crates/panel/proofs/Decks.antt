@@ -6,7 +6,7 @@ use native.Mathlib.Omega.{arith}
 use lib.ListN.{length, take, drop, length-append, length-take, length-drop}
 use Rattle.digits.specs.Lists.{pieces, joined}
 use Rattle.deck.specs.Deck.{groupsOf, blocksOf, wordsIn, wordsOf, readOf, writeOf}
-use Rattle.deck.specs.declared.Reading.the-variants as R
+use Rattle.deck.specs.declared.ReadIn.the-variants as R
 use Rattle.deck.specs.declared.Writing.the-variants as W
 use Rattle.deck.proofs.Groups.{length-groups}
 use Rattle.deck.proofs.Answers.{sized, few, was-read, wrote}

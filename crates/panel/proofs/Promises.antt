@@ -11,6 +11,7 @@ use Rattle.digits.specs.Refusal.{first}
 use Rattle.digits.proofs.Sole.{sole}
 use Rattle.word.specs.Layout.{fieldsOf}
 use Rattle.word.specs.declared.Fields.{Fields}
+use Rattle.codes.specs.declared.Reading.{Reading}
 use Rattle.machine.specs.Cycle.{Outcome, outcome, stops, cycleChecks, wordAt, ranOf, decided, cycleOf}
 use Rattle.machine.specs.declared.State.{State}
 use Rattle.machine.specs.declared.Cycled.{Cycled}
@@ -18,7 +19,7 @@ use Rattle.machine.specs.declared.Cycled.the-variants as C
 use Rattle.machine.proofs.Promises.{refusal-keeps, stop-keeps}
 use Rattle.run.specs.Run.{runOf}
 use Rattle.run.specs.declared.Finished.{Finished}
-use Rattle.run.proofs.Goes.{Machine, goes-none}
+use Rattle.run.proofs.Goes.{Machine, lawful, goes-none}
 use Rattle.run.proofs.Promises.{run-goes}
 use Rattle.channels.specs.Channels.{recordLength, loaded}
 use Rattle.panel.specs.Answers.{RAN, coded, STOPPED, REFUSED, answered, Called, called, short, cycled, cycleCall, ranBy, runCall}
@@ -47,22 +48,22 @@ use Rattle.panel.proofs.panel_write_signed.Reads as write-signed
 abbrev pub Untouched : List ℕ → List ℕ → List ℕ → Called → Type 0
 Untouched main local state c = c ≡ called (c .number) main local state
 
-module _ (store main local state : List ℕ) where
-  cycle-same : (a : Cycled) → cycleOf store main local (loaded state) .answer ≡ a
-      → (cycled a (cycleOf store main local (loaded state) .main) (cycleOf store main local (loaded state) .local) state .number ≡ RAN → ⊥)
-      → Untouched main local state (cycled a (cycleOf store main local (loaded state) .main) (cycleOf store main local (loaded state) .local) state)
+module _ (reading : Reading) (store main local state : List ℕ) where
+  cycle-same : (a : Cycled) → cycleOf reading store main local (loaded state) .answer ≡ a
+      → (cycled a (cycleOf reading store main local (loaded state) .main) (cycleOf reading store main local (loaded state) .local) state .number ≡ RAN → ⊥)
+      → Untouched main local state (cycled a (cycleOf reading store main local (loaded state) .main) (cycleOf reading store main local (loaded state) .local) state)
   cycle-same (C.Ran t) e h = absurd (h refl)
   cycle-same (C.Stopped t) e h =
-      let k = stop-keeps store main local (loaded state) t e in
+      let k = stop-keeps reading store main local (loaded state) t e in
       λ i. called (coded STOPPED 0 0) (k .in-main i) (k .in-local i) state
   cycle-same (C.Refused t n f) e h =
-      let k = refusal-keeps store main local (loaded state) t n f e in
+      let k = refusal-keeps reading store main local (loaded state) t n f e in
       λ i. called (coded REFUSED n f) (k .in-main i) (k .in-local i) state
 
   -- a cycle that did not run
-  pub cycle-keeps : (cycleCall store main local state .number ≡ RAN → ⊥) → Untouched main local state (cycleCall store main local state)
+  pub cycle-keeps : (cycleCall reading store main local state .number ≡ RAN → ⊥) → Untouched main local state (cycleCall reading store main local state)
   unfolding cycleCall
-  cycle-keeps = by (ltb (length state) recordLength) (cycled (cycleOf store main local (loaded state) .answer) (cycleOf store main local (loaded state) .main) (cycleOf store main local (loaded state) .local) state) (cycle-same (cycleOf store main local (loaded state) .answer) refl)
+  cycle-keeps = by (ltb (length state) recordLength) (cycled (cycleOf reading store main local (loaded state) .answer) (cycleOf reading store main local (loaded state) .main) (cycleOf reading store main local (loaded state) .local) state) (cycle-same (cycleOf reading store main local (loaded state) .answer) refl)
     where
       by : (b : Bool) (c : Called) → ((c .number ≡ RAN → ⊥) → Untouched main local state c) → (cond b (short main local state) c .number ≡ RAN → ⊥) → Untouched main local state (cond b (short main local state) c)
       by true c k h = refl
@@ -72,16 +73,16 @@ ran-none : (r : Outcome Finished) (main local state : List ℕ) → r .answer .c
 ran-none r main local state e em el = rw (e, em, el)
 
 -- a run of which no cycle ran
-pub run-keeps : (store main local state : List ℕ) (budget : ℕ) → runCall store main local state budget .number < 2 ^ 32 → Untouched main local state (runCall store main local state budget)
-run-keeps store main local state budget = by-record store main local state budget (λ (c : Called). c .number < 2 ^ 32 → Untouched main local state c) (λ short h. refl) ran
+pub run-keeps : (reading : Reading) (store main local state : List ℕ) (budget : ℕ) → runCall reading store main local state budget .number < 2 ^ 32 → Untouched main local state (runCall reading store main local state budget)
+run-keeps reading store main local state budget = by-record reading store main local state budget (λ (c : Called). c .number < 2 ^ 32 → Untouched main local state c) (λ short h. refl) ran
   where
     r : Outcome Finished
-    r = runOf budget store main local (loaded state)
+    r = runOf budget reading store main local (loaded state)
 
     ran : recordLength ≤ length state → ranBy r state .number < 2 ^ 32 → Untouched main local state (ranBy r state)
     ran long h =
         let e : r .answer .count ≡ 0 = omega arith in
-        let x = goes-none (run-goes budget store main local (loaded state)) e in
+        let x = goes-none (run-goes (lawful reading store) budget main local (loaded state)) e in
         ran-none r main local state e (ap (λ (m : Machine). m .main) x) (ap (λ (m : Machine). m .local) x)
 
 -- ---- "With ARRIVING off, .. a cycle writes 0."
@@ -91,20 +92,20 @@ Unlit (C.Ran t) = t .arriving ≡ false → t .«arriving_byte» ≡ 0
 Unlit (C.Stopped t) = Unit {0}
 Unlit (C.Refused t number field) = Unit {0}
 
-ran-unlit : (f : Fields) (main local : List ℕ) (s : State) → Unlit (ranOf f main local s .answer)
+ran-unlit : (reading : Reading) (f : Fields) (main local : List ℕ) (s : State) → Unlit (ranOf reading f main local s .answer)
 unfolding ranOf
-ran-unlit f main local s h = rw h
+ran-unlit reading f main local s h = rw h
 
-decided-unlit : (n : ℕ) (stop : Bool) (f : Fields) (main local : List ℕ) (s : State) → Unlit (decided n stop f main local s .answer)
-decided-unlit (suc n) stop f main local s = tt
-decided-unlit zero true f main local s = tt
-decided-unlit zero false f main local s = ran-unlit f main local s
+decided-unlit : (reading : Reading) (n : ℕ) (stop : Bool) (f : Fields) (main local : List ℕ) (s : State) → Unlit (decided reading n stop f main local s .answer)
+decided-unlit reading (suc n) stop f main local s = tt
+decided-unlit reading zero true f main local s = tt
+decided-unlit reading zero false f main local s = ran-unlit reading f main local s
 
-pub cycle-unlit : (store main local : List ℕ) (s : State) → Unlit (cycleOf store main local s .answer)
+pub cycle-unlit : (reading : Reading) (store main local : List ℕ) (s : State) → Unlit (cycleOf reading store main local s .answer)
 unfolding cycleOf
-cycle-unlit store main local s =
+cycle-unlit reading store main local s =
     let f : Fields = fieldsOf (wordAt store s) in
-    decided-unlit (first (cycleChecks store main local s)) (stops f) f main local s
+    decided-unlit reading (first (cycleChecks reading store main local s)) (stops f) f main local s
 
 -- ---- no second answer fits, nor a second state of what is lent
 
@@ -115,11 +116,11 @@ pub pack-sole : (κs : _) (args : _) (r q : ℕ) (x y : _) → pack.Post κs arg
 pack-sole κs args r q x y a b = sole a b
 
 pub cycle-sole : (κs : _) (args : _) (r q : ℕ) (x y : _) → cycle.Post κs args r x → cycle.Post κs args q y
-    → called r (now (x .1 .0)) (now (x .1 .1 .0)) (now (x .1 .1 .1 .0)) ≡ called q (now (y .1 .0)) (now (y .1 .1 .0)) (now (y .1 .1 .1 .0))
+    → called r (now (x .1 .1 .0)) (now (x .1 .1 .1 .0)) (now (x .1 .1 .1 .1 .0)) ≡ called q (now (y .1 .1 .0)) (now (y .1 .1 .1 .0)) (now (y .1 .1 .1 .1 .0))
 cycle-sole κs args r q x y a b = sole a b
 
 pub run-sole : (κs : _) (args : _) (r q : ℕ) (x y : _) → run.Post κs args r x → run.Post κs args q y
-    → called r (now (x .1 .0)) (now (x .1 .1 .0)) (now (x .1 .1 .1 .0)) ≡ called q (now (y .1 .0)) (now (y .1 .1 .0)) (now (y .1 .1 .1 .0))
+    → called r (now (x .1 .1 .0)) (now (x .1 .1 .1 .0)) (now (x .1 .1 .1 .1 .0)) ≡ called q (now (y .1 .1 .0)) (now (y .1 .1 .1 .0)) (now (y .1 .1 .1 .1 .0))
 run-sole κs args r q x y a b = sole a b
 
 pub add-decimal-sole : (κs : _) (args : _) (r q : ℕ) (x y : _) → add-decimal.Post κs args r x → add-decimal.Post κs args q y → outcome r (now (x .0)) (now (x .1 .0)) ≡ outcome q (now (y .0)) (now (y .1 .0))

@@ -11,6 +11,8 @@ use Rattle.word.specs.declared.Apart.{Apart}
 use Rattle.word.specs.declared.Apart.the-variants as A
 use Rattle.word.specs.declared.Packed.{Packed}
 use Rattle.word.specs.declared.Packed.the-variants as P
+use Rattle.codes.specs.declared.Reading.{Reading}
+use Rattle.codes.specs.declared.Reading.the-variants.{Basic, Compatibility}
 use Rattle.machine.specs.Cycle.{Outcome, outcome, cycleOf, nextSumOf}
 use Rattle.trap.specs.Trap.{trapOf}
 use Rattle.machine.specs.declared.State.{State}
@@ -32,8 +34,8 @@ use Rattle.apsp.specs.Program.{signedWords}
 use Rattle.apsp.specs.Entry.{signedStart, signedOf}
 use Rattle.digits.specs.Lent.{over}
 use Rattle.deck.specs.Deck.{readOf, wordsAfter, writeOf, deckAfter}
-use Rattle.deck.specs.declared.Reading.{Reading}
-use Rattle.deck.specs.declared.Reading.the-variants as R
+use Rattle.deck.specs.declared.ReadIn.{ReadIn}
+use Rattle.deck.specs.declared.ReadIn.the-variants as R
 use Rattle.deck.specs.declared.Writing.{Writing}
 use Rattle.deck.specs.declared.Writing.the-variants as W
 use Rattle.signed.specs.Signed.{readSigned, writeSigned, fieldAfter}
@@ -126,9 +128,13 @@ cycled (C.Refused s number field) main local state = called (coded REFUSED numbe
 abbrev pub cycledBy : Outcome Cycled → List ℕ → Called
 cycledBy o state = cycled (o .answer) (o .main) (o .local) state
 
-unfoldable pub cycleCall : List ℕ → List ℕ → List ℕ → List ℕ → Called
-cycleCall store main local state =
-    cond (ltb (length state) recordLength) (short main local state) (cycledBy (cycleOf store main local (loaded state)) state)
+-- enum panel_reading: "Any other value than 0 is compatibility."
+abbrev pub readingOf : ℕ → Reading
+readingOf number = cond (eqb number 0) Basic Compatibility
+
+unfoldable pub cycleCall : Reading → List ℕ → List ℕ → List ℕ → List ℕ → Called
+cycleCall reading store main local state =
+    cond (ltb (length state) recordLength) (short main local state) (cycledBy (cycleOf reading store main local (loaded state)) state)
 
 -- PANEL_STOPPED, PANEL_REFUSED or PANEL_SPENT
 abbrev pub endingCode : Ending → ℕ
@@ -144,9 +150,9 @@ abbrev pub ranBy : Outcome Finished → List ℕ → Called
 ranBy r state =
     called (counted (endingCode (r .answer .ending)) (r .answer .count)) (r .main) (r .local) (recordAfter (r .answer .count) (r .answer .state) state)
 
-unfoldable pub runCall : List ℕ → List ℕ → List ℕ → List ℕ → ℕ → Called
-runCall store main local state budget =
-    cond (ltb (length state) recordLength) (short main local state) (ranBy (runOf budget store main local (loaded state)) state)
+unfoldable pub runCall : Reading → List ℕ → List ℕ → List ℕ → List ℕ → ℕ → Called
+runCall reading store main local state budget =
+    cond (ltb (length state) recordLength) (short main local state) (ranBy (runOf budget reading store main local (loaded state)) state)
 
 -- ---- a trap between two cycles
 
@@ -229,7 +235,7 @@ subSignedCall main local first second n = addedBy (signedOf main local first sec
 -- ---- a deck
 
 -- "the count of words, or of bytes, that were written, and 65536 * refusal number (the count is then 0)"
-abbrev pub readNumber : Reading → ℕ
+abbrev pub readNumber : ReadIn → ℕ
 readNumber (R.Words count) = count
 readNumber (R.Refused number) = 65536 * number
 

@@ -5,15 +5,16 @@ use mathlib.Core.List.{List}
 use mathlib.Core.Bool.{cond}
 use lib.Dec.{eqb}
 use Rattle.digits.specs.Bits.{one}
+use Rattle.codes.specs.declared.Reading.{Reading}
 use Rattle.run.specs.Divided.{Quiet}
 use Rattle.panel.specs.Answers.{RAN, SPENT, counted, Called, cycleCall, runCall}
 
 -- the two buttons, each on what the last call left: the single-cycle button, and the run button with its budget
-abbrev pub pressCycle : List ℕ → Called → Called
-pressCycle store c = cycleCall store (c .main) (c .local) (c .state)
+abbrev pub pressCycle : Reading → List ℕ → Called → Called
+pressCycle reading store c = cycleCall reading store (c .main) (c .local) (c .state)
 
-abbrev pub pressRun : ℕ → List ℕ → Called → Called
-pressRun budget store c = runCall store (c .main) (c .local) (c .state) budget
+abbrev pub pressRun : ℕ → Reading → List ℕ → Called → Called
+pressRun budget reading store c = runCall reading store (c .main) (c .local) (c .state) budget
 
 -- ---- the run button twice, and once
 
@@ -36,37 +37,37 @@ pub record DividedCalls (b : ℕ) (first second whole : Called) : Type 0 where
 
 abbrev pub CallsDivide : Type 0
 CallsDivide =
-    (a b : ℕ) (store : List ℕ) (c : Called)
+    (a b : ℕ) (reading : Reading) (store : List ℕ) (c : Called)
     → a + b ≤ 1000000
-    → DividedCalls b (pressRun a store c) (pressRun b store (pressRun a store c)) (pressRun (a + b) store c)
+    → DividedCalls b (pressRun a reading store c) (pressRun b reading store (pressRun a reading store c)) (pressRun (a + b) reading store c)
 
 -- ---- the single-cycle button n times, and the run button once
 
 -- n presses, one after the other
-abbrev pub presses : ℕ → List ℕ → Called → Called
-presses zero store c = c
-presses (suc n) store c = presses n store (pressCycle store c)
+abbrev pub presses : ℕ → Reading → List ℕ → Called → Called
+presses zero reading store c = c
+presses (suc n) reading store c = presses n reading store (pressCycle reading store c)
 
 -- how many of them ran
-abbrev pub ranIn : ℕ → List ℕ → Called → ℕ
-ranIn zero store c = 0
-ranIn (suc n) store c = one (eqb (pressCycle store c .number) RAN) + ranIn n store (pressCycle store c)
+abbrev pub ranIn : ℕ → Reading → List ℕ → Called → ℕ
+ranIn zero reading store c = 0
+ranIn (suc n) reading store c = one (eqb (pressCycle reading store c .number) RAN) + ranIn n reading store (pressCycle reading store c)
 
 -- the last of them as the end of a run: where it ran, the budget is spent
 abbrev pub asEnding : ℕ → ℕ
 asEnding code = cond (eqb code RAN) SPENT code
 
-pub record Shows (n : ℕ) (store : List ℕ) (c : Called) : Type 0 where
-  pub in-state : presses n store c .state ≡ pressRun n store c .state
-  pub in-main : presses n store c .main ≡ pressRun n store c .main
-  pub in-local : presses n store c .local ≡ pressRun n store c .local
+pub record Shows (n : ℕ) (reading : Reading) (store : List ℕ) (c : Called) : Type 0 where
+  pub in-state : presses n reading store c .state ≡ pressRun n reading store c .state
+  pub in-main : presses n reading store c .main ≡ pressRun n reading store c .main
+  pub in-local : presses n reading store c .local ≡ pressRun n reading store c .local
   -- where none is pressed there is no answer to compare
-  pub number : (n ≡ 0 → ⊥) → counted (asEnding (presses n store c .number)) (ranIn n store c) ≡ pressRun n store c .number
+  pub number : (n ≡ 0 → ⊥) → counted (asEnding (presses n reading store c .number)) (ranIn n reading store c) ≡ pressRun n reading store c .number
 
 abbrev pub SameMachine : Type 0
-SameMachine = (n : ℕ) (store : List ℕ) (c : Called) → n ≤ 1000000 → Shows n store c
+SameMachine = (n : ℕ) (reading : Reading) (store : List ℕ) (c : Called) → n ≤ 1000000 → Shows n reading store c
 
 -- ---- a store with no Write and no Store word
 
 abbrev pub CallsQuiet : Type 0
-CallsQuiet = (budget : ℕ) (store : List ℕ) (c : Called) → Quiet store → (pressRun budget store c .main ≡ c .main) × (pressRun budget store c .local ≡ c .local)
+CallsQuiet = (budget : ℕ) (reading : Reading) (store : List ℕ) (c : Called) → Quiet store → (pressRun budget reading store c .main ≡ c .main) × (pressRun budget reading store c .local ≡ c .local)

@@ -5,12 +5,13 @@ ghost use mathlib.Core.Path.{_≡_};
 ghost use Prim.Native.Nat.{_≤_};
 ghost use lib.ListN.{length};
 ghost use Rattle.machine.specs.Cycle.{outcome};
-ghost use Rattle.panel.specs.Answers.{coded, counted, answered, takeApartCall, packCall, called, cycleCall, endingCode, recordAfter, runCall, placed, trapCall, nextSumCall, started, startCall, startSignedCall, handed, shippedCall, shippedSignedCall, addedCode, addDecimalCall, addSignedCall, subSignedCall, readDeckCall, writeDeckCall, readSignedCall, writeSignedCall};
+ghost use Rattle.panel.specs.Answers.{coded, counted, answered, takeApartCall, packCall, called, readingOf, cycleCall, endingCode, recordAfter, runCall, placed, trapCall, nextSumCall, started, startCall, startSignedCall, handed, shippedCall, shippedSignedCall, addedCode, addDecimalCall, addSignedCall, subSignedCall, readDeckCall, writeDeckCall, readSignedCall, writeSignedCall};
 ghost use Rattle.digits.specs.Lent.{over};
 ghost use Rattle.channels.specs.Channels.{recordLength, saved, worked};
 use adder::Work;
+use codes::Reading;
 use decimal::Added;
-use deck::Reading;
+use deck::ReadIn;
 use deck::Writing;
 use machine::NextSum;
 use machine::State;
@@ -100,14 +101,15 @@ fn save(s: State, state: &mut [u8])
 // One cycle, as a run of one, so that a cycle has one caller. The record is written by a cycle that ran, and by nothing else.
 #[no_mangle]
 pub extern "C" fn panel_cycle(
+    reading: u8,
     store: &[u64],
     main: &mut [u8],
     local: &mut [u8],
     state: &mut [u8],
 ) -> u32
-    ensures { λ r. ⌜ called r (now (main .exit)) (now (local .exit)) (now (state .exit)) ≡ cycleCall (now (store .entry)) (now (main .entry)) (now (local .entry)) (now (state .entry)) ⌝ }
+    ensures { λ r. ⌜ called r (now (main .exit)) (now (local .exit)) (now (state .exit)) ≡ cycleCall (readingOf reading) (now (store .entry)) (now (main .entry)) (now (local .entry)) (now (state .entry)) ⌝ }
 {
-    let code = (panel_run(store, main, local, state, 1) % 0x1_0000_0000) as u32;
+    let code = (panel_run(reading, store, main, local, state, 1) % 0x1_0000_0000) as u32;
     if code == SPENT as u32 {
         return RAN as u32;
     }
@@ -135,21 +137,40 @@ fn save_after(count: u32, s: State, state: &mut [u8])
     save(s, state);
 }
 
+// How a store is read: 0 is basic, any other number compatibility.
+fn reading_of(number: u8) -> Reading
+    ensures { λ r. ⌜ r ≡ readingOf number ⌝ }
+{
+    if number == 0 {
+        Reading::Basic
+    } else {
+        Reading::Compatibility
+    }
+}
+
 // A run.
 #[no_mangle]
 pub extern "C" fn panel_run(
+    reading: u8,
     store: &[u64],
     main: &mut [u8],
     local: &mut [u8],
     state: &mut [u8],
     budget: u32,
 ) -> u64
-    ensures { λ r. ⌜ called r (now (main .exit)) (now (local .exit)) (now (state .exit)) ≡ runCall (now (store .entry)) (now (main .entry)) (now (local .entry)) (now (state .entry)) budget ⌝ }
+    ensures { λ r. ⌜ called r (now (main .exit)) (now (local .exit)) (now (state .exit)) ≡ runCall (readingOf reading) (now (store .entry)) (now (main .entry)) (now (local .entry)) (now (state .entry)) budget ⌝ }
 {
     if state.len() < STATE {
         return counted(coded(REFUSED, 19, 0), 0);
     }
-    let finished = run::run(store, main, local, channels::loaded(state), budget);
+    let finished = run::run(
+        reading_of(reading),
+        store,
+        main,
+        local,
+        channels::loaded(state),
+        budget,
+    );
     let count = finished.count;
     let last = finished.state;
     let ending = finished.ending;
@@ -339,8 +360,8 @@ pub extern "C" fn panel_read_deck(deck: &[u8], words: &mut [u64]) -> u32
     ensures { λ r. ⌜ answered r (now (words .exit)) ≡ readDeckCall (now (deck .entry)) (now (words .entry)) ⌝ }
 {
     match deck::read(deck, words) {
-        Reading::Words(count) => count as u32,
-        Reading::Refused(number) => 65536 * number as u32,
+        ReadIn::Words(count) => count as u32,
+        ReadIn::Refused(number) => 65536 * number as u32,
     }
 }
 

@@ -4,3 +4,4 @@ pub mod Promises
 pub mod Divided
 pub mod Quiet
 pub mod Unread
+pub mod Seven

@@ -9,7 +9,8 @@ use Rattle.digits.proofs.Table.{any, each-in}
 use Rattle.digits.proofs.Truth.{zero-one}
 use Rattle.word.specs.Layout.{fieldsOf}
 use Rattle.word.specs.declared.Fields.{Fields}
-use Rattle.machine.specs.Cycle.{Outcome, wordAt, ranOf}
+use Rattle.codes.specs.declared.Reading.{Reading}
+use Rattle.machine.specs.Cycle.{Outcome, wordAt, ranOf, cycleOf}
 use Rattle.machine.specs.Sources.{entered}
 use Rattle.machine.specs.Storage.{readsLocal, idle, accesses, accessOf}
 use Rattle.machine.specs.declared.State.{State}
@@ -18,7 +19,7 @@ use Rattle.machine.specs.declared.Cycled.{Cycled}
 use Rattle.machine.proofs.Promises.{ran-exactly, ran-fields}
 use Rattle.run.specs.Divided.{writes, Quiet, QuietKeeps}
 use Rattle.run.specs.declared.Finished.{Finished}
-use Rattle.run.proofs.Goes.{Machine, Leads, goes-keep}
+use Rattle.run.proofs.Goes.{Machine, Leads, lawful, goes-keep}
 use Rattle.run.proofs.Promises.{run-goes}
 
 -- a byte is put in the rows of Write and Store alone
@@ -32,29 +33,29 @@ puts-nothing (suc (suc (suc cm))) local s h = any (λ (a : Access). a .puts ≡ 
 abbrev pub Holding : List ℕ → List ℕ → Machine → Type 0
 Holding main local m = (m .main ≡ main) × (m .local ≡ local)
 
-ran-holds : (f : Fields) (main local : List ℕ) (s : State) → writes (f .cm) ≡ false → (ranOf f main local s .main ≡ main) × (ranOf f main local s .local ≡ local)
+ran-holds : (reading : Reading) (f : Fields) (main local : List ℕ) (s : State) → writes (f .cm) ≡ false → (ranOf reading f main local s .main ≡ main) × (ranOf reading f main local s .local ≡ local)
 unfolding ranOf accessOf
-ran-holds f main local s h =
+ran-holds reading f main local s h =
     let e = puts-nothing (f .cm) (readsLocal (f .cu) (entered f s)) (entered f s) h in
     (rw e, rw e)
 
 -- a cycle that ran, of a word that is neither
-pub silent-holds : (store main local : List ℕ) (y z : Machine) → writes (fieldsOf (wordAt store (y .state)) .cm) ≡ false → Leads store y z → Holding main local y → Holding main local z
-silent-holds store main local y z h o (same-main, same-local) =
+pub silent-holds : (reading : Reading) (store main local : List ℕ) (y z : Machine) → writes (fieldsOf (wordAt store (y .state)) .cm) ≡ false → Leads (cycleOf reading store) y z → Holding main local y → Holding main local z
+silent-holds reading store main local y z h o (same-main, same-local) =
     let f : Fields = fieldsOf (wordAt store (y .state)) in
-    let does = o ∙ ran-fields store (y .main) (y .local) (y .state) (z .state) (ap (λ (x : Outcome Cycled). x .answer) (sym o)) in
-    let (in-main, in-local) = ran-holds f (y .main) (y .local) (y .state) h in
+    let does = o ∙ ran-fields reading store (y .main) (y .local) (y .state) (z .state) (ap (λ (x : Outcome Cycled). x .answer) (sym o)) in
+    let (in-main, in-local) = ran-holds reading f (y .main) (y .local) (y .state) h in
     (ap (λ (x : Outcome Cycled). x .main) does ∙ in-main ∙ same-main, ap (λ (x : Outcome Cycled). x .local) does ∙ in-local ∙ same-local)
 
 -- every word of a quiet store is such a one
-cycle-holds : (store : List ℕ) → Quiet store → (main local : List ℕ) (y z : Machine) → Leads store y z → Holding main local y → Holding main local z
-cycle-holds store quiet main local y z o =
+cycle-holds : (reading : Reading) (store : List ℕ) → Quiet store → (main local : List ℕ) (y z : Machine) → Leads (cycleOf reading store) y z → Holding main local y → Holding main local z
+cycle-holds reading store quiet main local y z o =
     let s : State = y .state in
-    let (none, on) = ran-exactly store (y .main) (y .local) s .0 (z .state, ap (λ (x : Outcome Cycled). x .answer) (sym o)) in
+    let (none, on) = ran-exactly reading store (y .main) (y .local) s .0 (z .state, ap (λ (x : Outcome Cycled). x .answer) (sym o)) in
     let word = each-in (λ (word : ℕ). writes (fieldsOf word .cm) ≡ false) store 0 quiet (s .wx) (leb-false (length store) (s .wx) (none .1 .0)) in
-    silent-holds store main local y z word o
+    silent-holds reading store main local y z word o
 
 pub quiet-keeps : QuietKeeps
-quiet-keeps budget store main local s whole quiet e =
-    let held = goes-keep (Holding main local) (cycle-holds store quiet main local) (run-goes budget store main local s) (refl, refl) in
+quiet-keeps reading budget store main local s whole quiet e =
+    let held = goes-keep (Holding main local) (cycle-holds reading store quiet main local) (run-goes (lawful reading store) budget main local s) (refl, refl) in
     (ap (λ (x : Outcome Finished). x .main) e ∙ held .0, ap (λ (x : Outcome Finished). x .local) e ∙ held .1)

@@ -6,6 +6,7 @@ use mathlib.Core.Bool.{Bool, false, cond}
 use lib.Dec.{eqb}
 use Rattle.digits.specs.Table.{among, Each}
 use Rattle.word.specs.Layout.{fieldsOf}
+use Rattle.codes.specs.declared.Reading.{Reading}
 use Rattle.machine.specs.Cycle.{Outcome}
 use Rattle.machine.specs.declared.State.{State}
 use Rattle.run.specs.Run.{ended, runOf}
@@ -28,11 +29,11 @@ pub record Divided (b : ℕ) (first second whole : Outcome Finished) : Type 0 wh
 -- at most 1,000,000". A run is what is promised of `run`, in whichever library.
 abbrev pub BudgetsDivide : Type 0
 BudgetsDivide =
-    (a b : ℕ) (store main local : List ℕ) (s : State) (first second whole : Outcome Finished)
+    (reading : Reading) (a b : ℕ) (store main local : List ℕ) (s : State) (first second whole : Outcome Finished)
     → a + b ≤ 1000000
-    → first ≡ runOf a store main local s
-    → second ≡ runOf b store (first .main) (first .local) (first .answer .state)
-    → whole ≡ runOf (a + b) store main local s
+    → first ≡ runOf a reading store main local s
+    → second ≡ runOf b reading store (first .main) (first .local) (first .answer .state)
+    → whole ≡ runOf (a + b) reading store main local s
     → Divided b first second whole
 
 -- "CM 0 Write, .. 2 Store"
@@ -46,7 +47,7 @@ Quiet store = Each (λ (word : ℕ). writes (fieldsOf word .cm) ≡ false) store
 -- "leaves all storage as found in every run", whatever its ending
 abbrev pub QuietKeeps : Type 0
 QuietKeeps =
-    (budget : ℕ) (store main local : List ℕ) (s : State) (whole : Outcome Finished)
+    (reading : Reading) (budget : ℕ) (store main local : List ℕ) (s : State) (whole : Outcome Finished)
     → Quiet store
-    → whole ≡ runOf budget store main local s
+    → whole ≡ runOf budget reading store main local s
     → (whole .main ≡ main) × (whole .local ≡ local)

@@ -1,3 +1,4 @@
 pub mod Run
 pub mod Divided
 pub mod Unread
+pub mod Seven

@@ -4,6 +4,7 @@ use mathlib.Core.Path.{_≡_}
 use mathlib.Core.List.{List}
 use mathlib.Core.Bool.{Bool, cond}
 use lib.Dec.{eqb}
+use Rattle.codes.specs.declared.Reading.{Reading}
 use Rattle.machine.specs.Cycle.{Outcome}
 use Rattle.machine.specs.Unread.{withLamps}
 use Rattle.machine.specs.declared.State.{State}
@@ -18,6 +19,6 @@ runWith carry invalid r =
 -- two states that differ in these two lamps alone run alike, whatever the budget, so cycle for cycle
 abbrev pub RunUnread : Type 0
 RunUnread =
-    (budget : ℕ) (store main local : List ℕ) (s : State) (carry invalid : Bool) (r : Outcome Finished)
-    → r ≡ runOf budget store main local s
-    → runWith carry invalid r ≡ runOf budget store main local (withLamps carry invalid s)
+    (reading : Reading) (budget : ℕ) (store main local : List ℕ) (s : State) (carry invalid : Bool) (r : Outcome Finished)
+    → r ≡ runOf budget reading store main local s
+    → runWith carry invalid r ≡ runOf budget reading store main local (withLamps carry invalid s)

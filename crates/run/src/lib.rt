@@ -2,7 +2,8 @@
 ghost use mathlib.Core.Path.{_≡_};
 ghost use Rattle.run.specs.Run.{cyclesOf, runChecks, runOf};
 ghost use Rattle.digits.specs.Refusal.{first};
-ghost use Rattle.machine.specs.Cycle.{outcome};
+ghost use Rattle.machine.specs.Cycle.{outcome, cycleOf};
+use codes::Reading;
 use machine::Cycled;
 use machine::State;
 
@@ -29,8 +30,15 @@ fn ended(ending: Ending, state: State, count: u32) -> Finished
     }
 }
 
-fn cycles(store: &[u64], main: &mut [u8], local: &mut [u8], state: State, budget: u32) -> Finished
-    ensures { λ r. ⌜ outcome r (now (main .exit)) (now (local .exit)) ≡ cyclesOf budget (now (store .entry)) (now (main .entry)) (now (local .entry)) state 0 ⌝ }
+fn cycles(
+    reading: Reading,
+    store: &[u64],
+    main: &mut [u8],
+    local: &mut [u8],
+    state: State,
+    budget: u32,
+) -> Finished
+    ensures { λ r. ⌜ outcome r (now (main .exit)) (now (local .exit)) ≡ cyclesOf budget (cycleOf reading (now (store .entry))) (now (main .entry)) (now (local .entry)) state 0 ⌝ }
 {
     let mut now = state;
     let mut done: u32 = 0;
@@ -38,7 +46,7 @@ fn cycles(store: &[u64], main: &mut [u8], local: &mut [u8], state: State, budget
         if done == budget {
             break ended(Ending::Spent, now, done);
         }
-        match machine::cycle(store, main, local, now) {
+        match machine::cycle(reading, store, main, local, now) {
             Cycled::Ran(next) => {
                 now = next;
                 done = done + 1;
@@ -61,13 +69,20 @@ pub fn refusal(store: usize, main: usize, local: usize, budget: u32) -> u8
     digits::first_of(wrong, 1, digits::first_of(1000000 < budget, 22, 0))
 }
 
-// A run.
-pub fn run(store: &[u64], main: &mut [u8], local: &mut [u8], state: State, budget: u32) -> Finished
-    ensures { λ r. ⌜ outcome r (now (main .exit)) (now (local .exit)) ≡ runOf budget (now (store .entry)) (now (main .entry)) (now (local .entry)) state ⌝ }
+// A run of a store under a reading.
+pub fn run(
+    reading: Reading,
+    store: &[u64],
+    main: &mut [u8],
+    local: &mut [u8],
+    state: State,
+    budget: u32,
+) -> Finished
+    ensures { λ r. ⌜ outcome r (now (main .exit)) (now (local .exit)) ≡ runOf budget reading (now (store .entry)) (now (main .entry)) (now (local .entry)) state ⌝ }
 {
     let number = refusal(store.len(), main.len(), local.len(), budget);
     if number != 0 {
         return ended(Ending::Refused(number, 0), state, 0);
     }
-    cycles(store, main, local, state, budget)
+    cycles(reading, store, main, local, state, budget)
 }

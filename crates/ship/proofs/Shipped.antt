@@ -1,4 +1,4 @@
--- No word of any of the three is refused, and the deck of each is one block. Assumes nothing.
+-- No word of any of the four is refused, and the deck of each is one block. Assumes nothing.
 use Prim.Native.Nat.{ℕ}
 use mathlib.Core.Path.{_≡_, refl, sym, subst, _∙_}
 use mathlib.Core.List.{List}
@@ -15,6 +15,7 @@ use Rattle.decimal.specs.Program.{shipped}
 use Rattle.apsp.specs.Program.{signedWords}
 use Rattle.ship.specs.Block.{OneBlock}
 use Rattle.ship.specs.Lesson.{lesson}
+use Rattle.ship.specs.Readings.{readings}
 
 pub add-fits : OneBlock shipped
 unfolding OneBlock wordChecks shipped packed inWidth ones
@@ -27,6 +28,10 @@ apsp-fits = (refl, length-deck signedWords)
 pub trap-fits : OneBlock lesson
 unfolding OneBlock wordChecks lesson shipped packed inWidth ones
 trap-fits = (refl, length-deck lesson)
+
+pub readings-fit : OneBlock readings
+unfolding OneBlock wordChecks readings packed inWidth ones
+readings-fit = (refl, length-deck readings)
 
 pub written : (words room : List ℕ) → OneBlock words → length room ≡ 512 → deckAfter words room ≡ deckOf words
 unfolding OneBlock

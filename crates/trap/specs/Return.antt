@@ -7,6 +7,7 @@ use lib.Dec.{eqb}
 use Rattle.word.specs.Layout.{fieldsOf}
 use Rattle.word.specs.Parity.{isReturn}
 use Rattle.word.specs.declared.Fields.{Fields}
+use Rattle.codes.specs.declared.Reading.{Reading}
 use Rattle.machine.specs.Sources.{entered}
 use Rattle.machine.specs.Status.{saves}
 use Rattle.machine.specs.Cycle.{Outcome, outcome, wordAt, ranOf, cycleOf}
@@ -36,8 +37,8 @@ pub record StillOpen (s u : State) : Type 0 where
 -- a cycle that ran, by whether its word is a return word
 abbrev pub Returns : Type 0
 Returns =
-    (store main local : List ℕ) (s u : State)
-    → cycleOf store main local s .answer ≡ C.Ran u
+    (reading : Reading) (store main local : List ℕ) (s u : State)
+    → cycleOf reading store main local s .answer ≡ C.Ran u
     → (returnsNext store s ≡ true → Returned s u) × (returnsNext store s ≡ false → StillOpen s u)
 
 -- ---- "A trap then return word resumes at the very word broken into"
@@ -51,12 +52,12 @@ resumedAt wx (C.Refused u number field) = C.Refused u number field
 -- all else is what the fields of the return word do to the state broken into
 abbrev pub TrapReturns : Type 0
 TrapReturns =
-    (store main local : List ℕ) (address : ℕ) (s t u : State) (o : Outcome Cycled)
+    (reading : Reading) (store main local : List ℕ) (address : ℕ) (s t u : State) (o : Outcome Cycled)
     → trapOf address s ≡ Taken t
     → returnsNext store t ≡ true
-    → cycleOf store main local t .answer ≡ C.Ran u
-    → o ≡ ranOf (fieldsOf (wordAt store t)) main local s
-    → cycleOf store main local t ≡ outcome (resumedAt (s .wx) (o .answer)) (o .main) (o .local)
+    → cycleOf reading store main local t .answer ≡ C.Ran u
+    → o ≡ ranOf reading (fieldsOf (wordAt store t)) main local s
+    → cycleOf reading store main local t ≡ outcome (resumedAt (s .wx) (o .answer)) (o .main) (o .local)
 
 -- "I J U V L T D R S G H M N"
 abbrev pub registersOf : State → List ℕ
@@ -69,9 +70,9 @@ changesNone f = eqb (f .cm) 1 && (eqb (f .cd) 0 && (eqb (f .cs) 0 && not (saves 
 -- where the return word is such a one, every register is as it was, but that a byte that was arriving is in R; and so are both storages
 abbrev pub TrapKeeps : Type 0
 TrapKeeps =
-    (store main local : List ℕ) (address : ℕ) (s t u : State)
+    (reading : Reading) (store main local : List ℕ) (address : ℕ) (s t u : State)
     → trapOf address s ≡ Taken t
     → returnsNext store t ≡ true
     → changesNone (fieldsOf (wordAt store t)) ≡ true
-    → cycleOf store main local t .answer ≡ C.Ran u
-    → (registersOf u ≡ registersOf (entered (fieldsOf (wordAt store t)) s)) × ((cycleOf store main local t .main ≡ main) × (cycleOf store main local t .local ≡ local))
+    → cycleOf reading store main local t .answer ≡ C.Ran u
+    → (registersOf u ≡ registersOf (entered (fieldsOf (wordAt store t)) s)) × ((cycleOf reading store main local t .main ≡ main) × (cycleOf reading store main local t .local ≡ local))

@@ -1,10 +1,10 @@
-//! The board's program: all that it prints of additions, runs, traps, lamps and the walk, byte for byte beside the second
-//! engine's text; and all that it tells on standard error, with the status that its root command ends with.
+//! The board's program: all that it prints of additions, runs, readings, traps, lamps and the walk, byte for byte beside the
+//! second engine's text; and all that it tells on standard error, with the status that its root command ends with.
 
 #[path = "../../second/tests/common/mod.rs"]
 mod common;
 
-use common::{one_of, running_word, Bench, Codes, STOP};
+use common::{one_of, running_word, Bench, Codes, SEVEN, STOP};
 use programs::{
     breaking, command, deck_of, failing_reads, file, folder, lesson, mend, root, run, said, said_to, said_to_full,
     typed_in, Said,
@@ -13,10 +13,11 @@ use second::board::{self, in_words, Trap, View};
 use second::deck::{words_of, BLOCK, LONGEST};
 use second::panel::STATE;
 use second::random::Random;
+use second::reading::Reading::{self, Basic, Compatibility};
 use second::run::Ending;
 use second::shipped;
 use second::signed::write_signed;
-use second::state::{State, I, J, M, N};
+use second::state::{State, G, I, J, M, N, R, S};
 use second::word::build;
 use std::collections::BTreeSet;
 use std::fs::{self, File};
@@ -139,19 +140,42 @@ fn asked(traps: &[Trap]) -> Vec<String> {
     traps.iter().map(|Trap { before, address }| format!("TRAP={before}:{address:03X}")).collect()
 }
 
+/// How a deck may be asked to be read.
+const READINGS: [Option<Reading>; 3] = [None, Some(Basic), Some(Compatibility)];
+
+/// "READING=B is basic, and so is a run without it."
+fn in_force(reading: Option<Reading>) -> Reading {
+    reading.unwrap_or(Basic)
+}
+
+/// A reading as it is asked for.
+fn spelt(reading: Reading) -> &'static str {
+    match reading {
+        Basic => "READING=B",
+        Compatibility => "READING=C",
+    }
+}
+
 /// A run from given registers prints what the second engine prints, and tells what went wrong in it.
-fn runs_with(here: &Path, bench: &Bench, budget: u64, traps: &[Trap], view: &View) -> Ending {
+fn runs_read(here: &Path, reading: Option<Reading>, bench: &Bench, budget: u64, traps: &[Trap], view: &View) -> Ending {
     let Files { deck, main } = files(here, &bench.store, &bench.main);
     let mut arguments = vec!["run".to_owned(), deck, main, budget.to_string()];
     arguments.extend(given(&bench.state).into_iter().chain(asked(traps)));
+    arguments.extend(reading.map(|reading| spelt(reading).to_owned()));
     let arguments = viewed(arguments, view);
-    let (text, ending) = board::run_with_traps(&bench.store, &bench.main, bench.state, budget, traps, view);
+    let reading = in_force(reading);
+    let (text, ending) = board::run_with_traps(reading, &bench.store, &bench.main, bench.state, budget, traps, view);
     let said = board(&strs(&arguments));
     same(&said.out, &text, &strs(&arguments));
     let told = told_of_run(&text, ending, traps);
     let status = i32::from(!told.is_empty());
     assert_eq!((said.err, said.status), (told, Some(status)), "{arguments:?}");
     ending
+}
+
+/// The same with no reading asked for.
+fn runs_with(here: &Path, bench: &Bench, budget: u64, traps: &[Trap], view: &View) -> Ending {
+    runs_read(here, None, bench, budget, traps, view)
 }
 
 /// The same with no trap.
@@ -334,9 +358,12 @@ fn runs_as(program: &[&str], fields: [&[u8]; 2], start: State, text: &str) {
     let registers = given(&start);
     let arguments = [&["run", &deck, &main, "1000"], &strs(&registers)[..]].concat();
     let (lines, _) = text.trim_end().rsplit_once('\n').expect("a line before the last");
-    prints(&arguments, &format!("{lines}\n"));
+    for reading in READINGS {
+        prints(&[&arguments[..], &Vec::from_iter(reading.map(spelt))].concat(), &format!("{lines}\n"));
+    }
 }
 
+/// They have none of the seven codes, and so the reading of their decks does not matter.
 #[test]
 fn the_shipped_decks_run_as_the_commands_do() {
     let start = shipped::start(0x100, 0x200, 1, false);
@@ -394,20 +421,28 @@ fn drawn_decks_and_images_are_run() {
     assert!(seen.iter().filter(|(_, number, _)| *number == 10).count() > 3, "{seen:?}");
 }
 
-/// Each field that can have a code that is not modelled, in the word at 005, after one that ran.
+/// A word with this code at 005, after one that ran, is refused by 10 with its field.
+fn refuses_code(here: &Path, reading: Option<Reading>, name: &str, code: u8) {
+    let mut bench = stops(6);
+    bench.then(0, 5, &[]);
+    bench.put(5, &[(name, code)]);
+    assert_eq!(kind(runs_read(here, reading, &bench, 2, &[], &View::LINES)).1, 10, "{name} {code}, {reading:?}");
+    let Files { deck, main } = files(here, &bench.store, &bench.main);
+    let line = format!("REFUSED 10 {name} AT 005: a code is not modelled");
+    let arguments: Vec<&str> = ["run", &deck, &main, "2"].into_iter().chain(reading.map(spelt)).collect();
+    ends_with(&board(&arguments), &line);
+}
+
+/// Each field that can have a code that is not modelled, whatever the reading.
 #[test]
 fn refusal_10_names_its_field() {
     let here = folder("board_fields");
     let codes: [(&str, u8); 10] =
-        [("CH", 4), ("CL", 3), ("CM", 6), ("CU", 1), ("CA", 6), ("AA", 1), ("AK", 1), ("CD", 4), ("CS", 15), ("AS", 1)];
+        [("CH", 4), ("CL", 3), ("CM", 6), ("CU", 1), ("CA", 6), ("AA", 1), ("AK", 1), ("CD", 4), ("CS", 14), ("AS", 1)];
     for (name, code) in codes {
-        let mut bench = stops(6);
-        bench.then(0, 5, &[]);
-        bench.put(5, &[(name, code)]);
-        assert_eq!(kind(runs(&here, &bench, 2, &View::LINES)).1, 10, "{name}");
-        let Files { deck, main } = files(&here, &bench.store, &bench.main);
-        let line = format!("REFUSED 10 {name} AT 005: a code is not modelled");
-        ends_with(&board(&["run", &deck, &main, "2"]), &line);
+        for reading in READINGS {
+            refuses_code(&here, reading, name, code);
+        }
     }
 }
 
@@ -458,7 +493,7 @@ fn each_register_is_given_by_its_name() {
     let bench = endless();
     let Files { deck, main } = files(&here, &bench.store, &bench.main);
     let prints_with = |given: &[String], state: State| {
-        let (text, _) = board::run(&bench.store, &bench.main, state, 1, &View::LINES);
+        let (text, _) = board::run(Basic, &bench.store, &bench.main, state, 1, &View::LINES);
         prints(&[&["run", &deck, &main, "1"], &strs(given)[..]].concat(), &text);
     };
     for (place, name) in NAMES.iter().enumerate() {
@@ -486,9 +521,256 @@ fn a_budget_has_one_to_seven_digits() {
     let here = folder("board_budgets");
     let bench = stops(1);
     let Files { deck, main } = files(&here, &bench.store, &bench.main);
-    let (text, _) = board::run(&bench.store, &bench.main, bench.state, 1, &View::LINES);
+    let (text, _) = board::run(Basic, &bench.store, &bench.main, bench.state, 1, &View::LINES);
     for budget in ["1", "0000001", "999999", "1000000"] {
         prints(&["run", &deck, &main, budget], &text);
+    }
+}
+
+// ---- readings
+
+const NO_CH: &str = "REFUSED 10 CH AT 000: a code is not modelled";
+const NO_CL: &str = "REFUSED 10 CL AT 000: a code is not modelled";
+const NO_CS: &str = "REFUSED 10 CS AT 000: a code is not modelled";
+
+/// A word's code, the register that it is run from, and how a run of one cycle ends in basic and in compatibility.
+const READ: [(&str, u8, &str, [&str; 2]); 14] = [
+    ("CH", 3, "V=FC", ["SPENT AT 002", NO_CH]),
+    ("CH", 3, "V=01", ["SPENT AT 000", NO_CH]),
+    ("CH", 8, "S=40", ["SPENT AT 002", "SPENT AT 000"]),
+    ("CH", 8, "R=20", ["SPENT AT 000", "SPENT AT 002"]),
+    ("CL", 4, "G=40", [NO_CL, "SPENT AT 001"]),
+    ("CL", 4, "G=BF", [NO_CL, "SPENT AT 000"]),
+    ("CL", 6, "R=40", ["SPENT AT 000", "SPENT AT 001"]),
+    ("CL", 6, "R=BF", ["SPENT AT 000", "SPENT AT 000"]),
+    ("CL", 12, "R=10", [NO_CL, "SPENT AT 001"]),
+    ("CL", 12, "R=EF", [NO_CL, "SPENT AT 000"]),
+    ("CS", 5, "S=00", [NO_CS, "SPENT AT 000"]),
+    ("CS", 5, "S=40", [NO_CS, "SPENT AT 000"]),
+    ("CS", 15, "S=FF", [NO_CS, "SPENT AT 000"]),
+    ("CS", 15, "S=BF", [NO_CS, "SPENT AT 000"]),
+];
+
+/// Each of the seven codes as request 7 has it; a run that is refused under one reading is not under the other.
+#[test]
+fn a_code_is_read_as_asked() {
+    let here = folder("board_read");
+    for (name, code, register, lines) in READ {
+        let mut bench = stops(1);
+        bench.put(0, &[(name, code)]);
+        let Files { deck, main } = files(&here, &bench.store, &bench.main);
+        for reading in READINGS {
+            let line = lines[usize::from(in_force(reading) == Compatibility)];
+            let run: Vec<&str> = ["run", &deck, &main, "1", register].into_iter().chain(reading.map(spelt)).collect();
+            for arguments in [run.clone(), [&["lamps"], &run[..]].concat()] {
+                let said = board(&arguments);
+                ends_with(&said, line);
+                let refused = line.starts_with("REFUSED");
+                let told = if refused { "board: the run was refused\n" } else { "" };
+                assert_eq!((said.err.as_str(), said.status), (told, Some(i32::from(refused))), "{arguments:?}");
+            }
+        }
+    }
+}
+
+/// All lines of it set out by hand: CS 5 turns S1 on, CL 4 tests G1, CL 12 R3, CL 6 R1, CH 8 R2, CS 15 turns S1 off, and CH 3
+/// is not modelled.
+#[test]
+fn a_run_in_compatibility_is_as_it_was_set_out() {
+    let here = folder("board_compatible");
+    let mut bench = stops(0x1A);
+    for (address, codes) in [
+        (0x00, [("CN", 1), ("CS", 5)]),
+        (0x04, [("CN", 2), ("CL", 4)]),
+        (0x09, [("CN", 3), ("CL", 12)]),
+        (0x0D, [("CN", 4), ("CL", 6)]),
+        (0x10, [("CN", 5), ("CH", 8)]),
+        (0x16, [("CN", 6), ("CS", 15)]),
+        (0x18, [("CN", 0), ("CH", 3)]),
+    ] {
+        bench.put(address, &codes);
+    }
+    let Files { deck, main } = files(&here, &bench.store, &bench.main);
+    let expected = "  CYCLE  AT  I  J  U  V  L  T  D  R  S  G  H  M  N   WX AC 1BC Z0 AW LS AR AB DC INV  FWX OW  A GA  B GB EB CI BEFORE AFTER
+      0 --- 00 00 00 00 00 00 00 30 81 40 00 00 00 0000  0   0  0  0  0  0 00  0   0 0000  0
+      1 000 00 00 00 00 00 00 00 30 C1 40 00 00 00 0004  0   0  1  0  0  0 00  0   0 0000  0 81 00 30 00 00  0     00    00
+      2 004 00 00 00 00 00 00 00 30 C1 40 00 00 00 0009  0   0  1  0  0  0 00  0   0 0000  0 C1 00 30 00 00  0     00    00
+      3 009 00 00 00 00 00 00 00 30 C1 40 00 00 00 000D  0   0  1  0  0  0 00  0   0 0000  0 C1 00 30 00 00  0     00    00
+      4 00D 00 00 00 00 00 00 00 30 C1 40 00 00 00 0010  0   0  1  0  0  0 00  0   0 0000  0 C1 00 30 00 00  0     00    00
+      5 010 00 00 00 00 00 00 00 30 C1 40 00 00 00 0016  0   0  1  0  0  0 00  0   0 0000  0 C1 00 30 00 00  0     00    00
+      6 016 00 00 00 00 00 00 00 30 81 40 00 00 00 0018  0   0  1  0  0  0 00  0   0 0000  0 C1 00 30 00 00  0     00    00
+REFUSED 10 CH AT 018: a code is not modelled
+";
+    let said = board(&["run", &deck, &main, "9", "R=30", "S=81", "G=40", "READING=C"]);
+    same(&said.out, expected, &["compatibility"]);
+    assert_eq!((said.err.as_str(), said.status), ("board: the run was refused\n", Some(1)));
+    bench.set(&[(R, 0x30), (S, 0x81), (G, 0x40)]);
+    for reading in READINGS {
+        runs_read(&here, reading, &bench, 9, &[], &View::LINES);
+        runs_read(&here, reading, &bench, 9, &[], &View::LAMPS);
+    }
+}
+
+/// The carry of 7F + 01 into bit 0 is 1BC, which CL 6 tests in basic alone.
+#[test]
+fn cl_6_tests_1bc_or_r1() {
+    let here = folder("board_1bc");
+    let mut bench = stops(6);
+    bench.then(0, 1, &[("CA", 14), ("CB", 3), ("CK", 1), ("CF", 3), ("CG", 1), ("CD", 14)]);
+    bench.put(1, &[("CN", 1), ("CL", 6)]);
+    for (j, r, lines) in [
+        (0x7F, 0x00, ["STOPPED AT 005", "STOPPED AT 004"]),
+        (0x00, 0x40, ["STOPPED AT 004", "STOPPED AT 005"]),
+        (0x7F, 0x40, ["STOPPED AT 005"; 2]),
+        (0x00, 0xBF, ["STOPPED AT 004"; 2]),
+    ] {
+        bench.set(&[(J, j), (R, r)]);
+        let Files { deck, main } = files(&here, &bench.store, &bench.main);
+        for reading in READINGS {
+            runs_read(&here, reading, &bench, 9, &[], &View::LINES);
+            let registers = given(&bench.state);
+            let run = ["run", &deck, &main, "9"].into_iter().chain(strs(&registers)).chain(reading.map(spelt));
+            ends_with(&board(&run.collect::<Vec<_>>()), lines[usize::from(in_force(reading) == Compatibility)]);
+        }
+    }
+}
+
+/// A drawn bench, its store fit for a reading; in half of them one word in sixteen has any of the codes that are told apart.
+fn drawn_for(random: &mut Random, reading: Reading) -> Bench {
+    let mut bench = drawn(random);
+    if reading == Compatibility {
+        bench = common::in_compatibility(random, bench);
+    }
+    let one_in = one_of(random, &[16, u64::MAX]);
+    for (address, word) in (0..).zip(&mut bench.store) {
+        if random.below(one_in) == 0 {
+            *word = common::with_code(*word, address, one_of(random, &SEVEN));
+        }
+    }
+    bench
+}
+
+#[test]
+fn drawn_decks_are_run_as_they_are_read() {
+    let (random, here) = (&mut Random::new(127), folder("board_readings"));
+    let mut seen = BTreeSet::new();
+    for _ in 0..200 {
+        let reading = one_of(random, &READINGS);
+        let bench = drawn_for(random, in_force(reading));
+        let (budget, lamps) = (one_of(random, &[1, 2, 40, 300]), random.below(4) == 0);
+        let ending = runs_read(&here, reading, &bench, budget, &[], &View { lamps, ..View::LINES });
+        seen.insert((in_force(reading) == Compatibility, kind(ending)));
+    }
+    for (compatibility, expected) in [
+        (false, ("stopped", 0, 0)),
+        (false, ("spent", 0, 0)),
+        (false, ("refused", 10, 5)),
+        (false, ("refused", 10, 20)),
+        (true, ("stopped", 0, 0)),
+        (true, ("spent", 0, 0)),
+        (true, ("refused", 10, 4)),
+    ] {
+        assert!(seen.contains(&(compatibility, expected)), "{compatibility} {expected:?} of {seen:?}");
+    }
+}
+
+#[test]
+fn traps_break_in_whatever_the_reading() {
+    let (random, here) = (&mut Random::new(131), folder("board_read_traps"));
+    for _ in 0..60 {
+        let reading = one_of(random, &READINGS);
+        let mut bench = drawn_for(random, in_force(reading));
+        for address in (1..bench.store.len()).step_by(4) {
+            bench.put(address, &[("CU", 3)]);
+        }
+        let asked = drawn_traps(random, bench.store.len() as u64);
+        let view = View { lamps: random.below(4) == 0, ..View::LINES };
+        runs_read(&here, reading, &bench, 40, &asked, &view);
+    }
+}
+
+/// Neither the endless words nor the word P have one of the seven codes.
+#[test]
+fn a_deck_with_none_of_the_seven_codes_prints_the_same() {
+    let here = folder("board_same");
+    let p = Bench { store: vec![common::P], ..stops(1) };
+    for bench in [endless(), endless_with_routine(), p] {
+        let Files { deck, main } = files(&here, &bench.store, &bench.main);
+        for arguments in [&["run", &deck, &main, "300", "R=FF"][..], &["lamps", "run", &deck, &main, "30", "G=5A"]] {
+            let of = |reading: Option<Reading>| board(&[arguments, &Vec::from_iter(reading.map(spelt))].concat());
+            let [none, basic, compatibility] = READINGS.map(of);
+            assert!(none.out.len() > 200 && none == basic && none == compatibility, "{none:?}");
+        }
+    }
+}
+
+/// The words of the trap, of which the first branches by CL 6: with R1 on it leads to itself in basic, until 1BC is on.
+fn branching() -> Bench {
+    let mut bench = endless_with_routine();
+    bench.put(0, &[("CL", 6), ("CA", 14), ("CB", 3), ("CK", 1), ("CF", 3), ("CG", 1), ("CD", 14)]);
+    bench.set(&[(R, 0x40), (J, 0x7A)]);
+    bench
+}
+
+#[test]
+fn a_reading_is_asked_for_in_large_letters_and_small_among_the_others() {
+    let (here, bench) = (folder("board_read_spelt"), branching());
+    let Files { deck, main } = files(&here, &bench.store, &bench.main);
+    let view = View { from: 1, to: 15, ..View::LINES };
+    let asked = traps([(3, 2), (9, 2)]);
+    let text = |reading| board::run_with_traps(reading, &bench.store, &bench.main, bench.state, 20, &asked, &view).0;
+    assert_ne!(text(Basic), text(Compatibility));
+    let others = ["R=40", "TRAP=3:2", "FROM=1", "J=7A", "trap=9:002", "TO=15"];
+    let run = ["run", &deck, &main, "20"];
+    prints(&[&run, &others[..]].concat(), &text(Basic));
+    for (reading, spellings) in [
+        (Basic, ["READING=B", "reading=b", "Reading=B", "READING=b", "rEADING=B"]),
+        (Compatibility, ["READING=C", "reading=c", "Reading=C", "READING=c", "reAdInG=C"]),
+    ] {
+        for (place, spelling) in (0..=others.len()).zip(spellings.into_iter().cycle()) {
+            let (before, after) = others.split_at(place);
+            prints(&[&run, before, &[spelling], after].concat(), &text(reading));
+        }
+    }
+}
+
+/// No letter, no reading, two, or another name.
+const NO_READINGS: [&str; 26] = [
+    "READING",
+    "READING=",
+    "READING=X",
+    "READING=A",
+    "READING=D",
+    "READING=0",
+    "READING=1",
+    "READING=BC",
+    "READING=CB",
+    "READING=CC",
+    "READING=BASIC",
+    "READING=C,B",
+    "READING==C",
+    "READING=C=",
+    "READING:C",
+    "READING C",
+    "READINGC",
+    "READING= C",
+    "READING=C ",
+    " READING=C",
+    "READINGS=C",
+    "READIN=C",
+    "EADING=C",
+    "RE=C",
+    "B",
+    "C",
+];
+
+#[test]
+fn a_reading_that_is_none_is_told() {
+    let given = Files::endless("board_no_reading");
+    let long = "READING=C".to_owned() + &"C".repeat(90);
+    for argument in NO_READINGS.into_iter().chain([long.as_str()]) {
+        given.tells(&[argument], 5, NEITHER);
+        given.tells(&["READING=C", "TO=1", argument], 7, NEITHER);
     }
 }
 
@@ -651,7 +933,7 @@ fn drawn_traps_break_into_drawn_runs() {
         let (budget, lamps) = (one_of(random, &[1, 5, 40, 40, 300]), random.below(4) == 0);
         let view = View { lamps, ..View::LINES };
         let ending = runs_with(&here, &bench, budget, &asked, &view);
-        let (text, _) = board::run_with_traps(&bench.store, &bench.main, bench.state, budget, &asked, &view);
+        let (text, _) = board::run_with_traps(Basic, &bench.store, &bench.main, bench.state, budget, &asked, &view);
         again += usize::from(text.matches("TRAP TO ").count() > 1);
         lines.extend((text.clone() + &told_of_run(&text, ending, &asked)).lines().map(str::to_owned));
     }
@@ -678,7 +960,7 @@ fn a_trap_is_asked_for_in_large_letters_and_small_among_the_others() {
     let Files { deck, main } = files(&here, &bench.store, &bench.main);
     let text = |address| {
         let asked = traps([(3, address)]);
-        board::run_with_traps(&bench.store, &bench.main, bench.state, 9, &asked, &View::LINES).0
+        board::run_with_traps(Basic, &bench.store, &bench.main, bench.state, 9, &asked, &View::LINES).0
     };
     for trap in ["TRAP=3:2", "trap=3:02", "Trap=03:002", "tRAP=0000003:0002"] {
         prints(&["run", &deck, &main, "9", trap], &text(2));
@@ -688,7 +970,7 @@ fn a_trap_is_asked_for_in_large_letters_and_small_among_the_others() {
     }
     let view = View { from: 2, to: 6, ..View::LINES };
     let start = State { registers: bench.state.registers.map(|_| 0x11), ..bench.state };
-    let (text, _) = board::run_with_traps(&bench.store, &bench.main, start, 9, &traps([(7, 2), (3, 2)]), &view);
+    let (text, _) = board::run_with_traps(Basic, &bench.store, &bench.main, start, 9, &traps([(7, 2), (3, 2)]), &view);
     let mut arguments: Vec<String> = NAMES.iter().map(|name| format!("{name}=11")).collect();
     for (at, argument) in [(0, "TRAP=7:2"), (3, "TO=6"), (9, "trap=3:002"), (16, "FROM=2")] {
         arguments.insert(at, argument.to_owned());
@@ -741,7 +1023,8 @@ fn from_and_to_stand_in_either_order_and_in_small_letters() {
     let (here, mut bench) = (folder("board_order"), endless());
     let Files { deck, main } = files(&here, &bench.store, &bench.main);
     bench.set(&[(M, 0x11), (N, 0x22)]);
-    let (text, _) = board::run(&bench.store, &bench.main, bench.state, 9, &View { from: 5, to: 7, ..View::LINES });
+    let (text, _) =
+        board::run(Basic, &bench.store, &bench.main, bench.state, 9, &View { from: 5, to: 7, ..View::LINES });
     prints(&["run", &deck, &main, "9", "TO=7", "N=22", "FROM=5", "m=11"], &text);
 }
 
@@ -839,7 +1122,7 @@ fn a_million_lines_are_soon_written() {
     let took = start.elapsed();
     println!("a million lines took {took:?}");
     assert!(said.well(), "{said:?}");
-    let (text, ending) = board::run(&bench.store, &bench.main, bench.state, 1_000_000, &View::LINES);
+    let (text, ending) = board::run(Basic, &bench.store, &bench.main, bench.state, 1_000_000, &View::LINES);
     assert_eq!((ending, text.lines().count()), (Ending::Spent, 1_000_003));
     same(&fs::read(&path).expect("the lines"), &text, &["a million"]);
     fs::remove_file(&path).expect("the lines");
@@ -954,12 +1237,26 @@ fn usage_is_shown_in_each_spelling() {
 fn usage_names_all_that_can_be_given() {
     let usage = board(&["help"]).text();
     let words: BTreeSet<&str> = usage.split(|c: char| !c.is_ascii_alphanumeric()).collect();
-    for word in ["add", "ap", "sp", "run", "lamps", "walk", "signed", "WX", "TRAP", "FROM", "TO"].iter().chain(&NAMES) {
+    let others = ["add", "ap", "sp", "run", "lamps", "walk", "signed", "WX", "TRAP", "READING", "FROM", "TO"];
+    for word in others.iter().chain(&NAMES) {
         assert!(words.contains(word), "{word}");
     }
     for part in ["digits A to F are allowed", "bad-digit ending"] {
         assert!(usage.contains(part), "{part}");
     }
+}
+
+/// The line of `run` names the option, and the last line of all tells what it does.
+#[test]
+fn usage_tells_of_the_readings() {
+    let usage = board(&["help"]).text();
+    let run = "board run DECK MAIN CYCLES [I=HH ..] [TRAP=n:HHH ..] [READING=B|C] [FROM=n] [TO=n]";
+    assert_eq!(usage.lines().filter(|line| line.starts_with("board run ")).collect::<Vec<_>>(), [run]);
+    let told = "READING=C reads the deck as the compatibility store: CH 8 is R2, CL 4 G1, CL 6 R1, CL 12 R3, \
+                CS 5 turns S1 on, CS 15 turns S1 off, CH 3 is not modelled; READING=B is basic, and so is a run without it";
+    let last: Vec<&str> = usage.lines().rev().take(2).collect();
+    assert_eq!(last[0], told);
+    assert!(last[1].starts_with("FROM=n and TO=n show only those cycles"), "{last:?}");
 }
 
 // ---- what is told
@@ -1068,7 +1365,9 @@ fn a_signed_number_that_is_none_is_told() {
 #[test]
 fn what_ap_and_sp_do_not_know_is_told() {
     for (name, _) in SIGNED {
-        for argument in ["0", "1", "", "x", "FROM", "TO=", "FROM=x", "I=1", "TRAP=1:0A0", "TRAP=0:0A0"] {
+        for argument in
+            ["0", "1", "", "x", "FROM", "TO=", "FROM=x", "I=1", "TRAP=1:0A0", "TRAP=0:0A0", "READING=C", "READING=X"]
+        {
             let all = ["lamps", name, "38", "47", "TO=9", argument];
             tells(&[name, "38", "47", argument], "argument 4 is neither FROM=n nor TO=n");
             tells(&all[1..], "argument 5 is neither FROM=n nor TO=n");
@@ -1101,6 +1400,11 @@ fn what_an_addition_does_not_know_is_told() {
         "ROM=1",
         "=1",
         "TRAP=1:0A0",
+        "READING=B",
+        "READING=C",
+        "reading=c",
+        "READING=X",
+        "READING",
     ] {
         neither(&[argument], 4);
         neither(&["1", argument], 5);
@@ -1124,7 +1428,8 @@ impl Files {
     }
 }
 
-const NEITHER: &str = "is neither a register and its value, as I=HH or WX=HHH, nor TRAP=CYCLE:HHH, nor FROM=n nor TO=n";
+const NEITHER: &str = "is neither a register and its value, as I=HH or WX=HHH, nor TRAP=CYCLE:HHH, \
+                       nor READING=B or READING=C, nor FROM=n nor TO=n";
 
 #[test]
 fn what_a_run_does_not_know_is_told() {
@@ -1194,6 +1499,12 @@ fn what_is_given_twice_is_told() {
     given.tells(&["WX=1", "wx=2"], 6, before);
     given.tells(&["FROM=0", "FROM=0"], 6, before);
     given.tells(&["TO=0", "I=1", "to=9"], 7, before);
+    for first in ["READING=B", "READING=C"] {
+        given.tells(&[first, "READING=B"], 6, before);
+        given.tells(&[first, "READING=C"], 6, before);
+        given.tells(&["TRAP=1:0", first, "I=1", "reading=c"], 8, before);
+        given.tells(&[first, "TO=1", "R=C", "Reading=b", "READING=X"], 8, before);
+    }
     given.tells(&["TRAP=5:1", "TRAP=5:1"], 6, before);
     given.tells(&["TRAP=5:1", "TRAP=6:1", "I=1", "trap=0000005:FFF"], 8, before);
     given.tells(&["TRAP=1:1", "TRAP=1000000:1", "TRAP=1000000:0"], 7, before);
@@ -1206,23 +1517,25 @@ fn what_is_given_twice_is_told() {
 fn an_argument_has_its_true_number() {
     let given = Files::endless("board_number");
     let mut all: Vec<String> = NAMES.iter().map(|name| format!("{name}=1")).collect();
-    all.extend(["WX=1", "FROM=1", "TO=1"].map(str::to_owned));
+    all.extend(["WX=1", "READING=C", "FROM=1", "TO=1"].map(str::to_owned));
     let all = strs(&all);
     let hundred = vec!["I=1"; 100];
-    given.tells(&[&all[..], &["x"]].concat(), 21, NEITHER);
-    given.tells(&[&all[..], &["x"], &hundred].concat(), 21, NEITHER);
-    given.tells(&[&all[..], &hundred].concat(), 21, "was given before");
+    given.tells(&[&all[..], &["x"]].concat(), 22, NEITHER);
+    given.tells(&[&all[..], &["x"], &hundred].concat(), 22, NEITHER);
+    given.tells(&[&all[..], &hundred].concat(), 22, "was given before");
     given.tells(&[&hundred[..], &all].concat(), 6, "was given before");
     let traps: Vec<String> = (1..=100).map(|cycle| format!("TRAP={cycle}:0")).collect();
     let traps = strs(&traps);
-    given.tells(&[&traps[..], &all, &["x"]].concat(), 121, NEITHER);
-    given.tells(&[&all[..], &traps, &traps].concat(), 121, "was given before");
+    given.tells(&[&traps[..], &all, &["x"]].concat(), 122, NEITHER);
+    given.tells(&[&all[..], &traps, &traps].concat(), 122, "was given before");
 }
 
 #[test]
 fn a_number_of_cycles_that_is_none_is_told() {
     let Files { deck, main } = Files::endless("board_cycles");
-    for cycles in ["", "x", "-1", "+1", " 1", "1 ", "1A", "1000001", "9999999", "00000001", "10000000", "1e3", "I=1"] {
+    for cycles in
+        ["", "x", "-1", "+1", " 1", "1 ", "1A", "1000001", "9999999", "00000001", "10000000", "1e3", "I=1", "READING=C"]
+    {
         tells(&["run", &deck, &main, cycles], "argument 4 is not a number of cycles up to 1000000");
         tells(&["lamps", "run", &deck, &main, cycles], "argument 5 is not a number of cycles up to 1000000");
     }
@@ -1326,7 +1639,7 @@ fn a_read_that_fails_half_way_is_told() {
     bench.then(0, 1, &[("CM", 3)]);
     bench.main = vec![7; 3 * BLOCK];
     let Files { deck, main } = files(&here, &bench.store, &bench.main);
-    let (text, _) = board::run(&bench.store, &bench.main, bench.state, 9, &View::LINES);
+    let (text, _) = board::run(Basic, &bench.store, &bench.main, bench.state, 9, &View::LINES);
     let of = |path: &str, reads| {
         run(breaking(&mut command("board", &["run", &deck, &main, "9"]), &library, path, reads), &[])
     };
@@ -1362,6 +1675,7 @@ fn a_write_that_fails_is_told_once() {
         &["lamps", "run", &deck, &main, "20000"],
         &["run", &deck, &main, "100000", "TO=0"],
         &["run", &deck, &main, "9", "TRAP=9:1"],
+        &["run", &deck, &main, "9", "READING=C"],
     ] {
         let said = said_to_full("board", arguments, &[]);
         assert_eq!((said.err.as_str(), said.status), ("board: the output was not written\n", Some(1)), "{arguments:?}");
@@ -1373,7 +1687,7 @@ fn a_write_that_fails_is_told_once() {
 fn a_write_that_fails_half_way_is_told_once() {
     let (here, bench) = (folder("board_limit"), endless());
     let Files { deck, main } = files(&here, &bench.store, &bench.main);
-    let (text, _) = board::run(&bench.store, &bench.main, bench.state, 100_000, &View::LINES);
+    let (text, _) = board::run(Basic, &bench.store, &bench.main, bench.state, 100_000, &View::LINES);
     let path = here.join("lines");
     // the programs are proved without the limit
     board(&["help"]);

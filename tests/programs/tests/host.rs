@@ -6,14 +6,19 @@ mod common;
 
 use programs::{file, folder, lesson, root, run, there, Said};
 use second::panel;
+use second::word::build;
 use std::path::PathBuf;
 use std::process::Command;
+
+/// enum panel_reading.
+const BASIC: u8 = 0;
+const COMPATIBILITY: u8 = 1;
 
 /// What examples/panel prints of the word P: one cycle of it from J 5D, and the record that it leaves.
 fn cycle_of_p() -> String {
     let mut record = [0; panel::STATE];
     record[1] = 0x5D;
-    let answer = panel::one_cycle(&[common::P], &mut [0; 256], &mut [0; 256], &mut record);
+    let answer = panel::one_cycle(BASIC, &[common::P], &mut [0; 256], &mut [0; 256], &mut record);
     assert_eq!(answer, 0);
     let names = "I J U V L T D R S G H M N WX_high WX_low AC 1BC Z0 allow_write local arriving arriving_byte \
                  digit_carry invalid FWX_high FWX_low owed";
@@ -35,7 +40,7 @@ fn cycles_of_the_sum() -> String {
             text += &format!("word {at:03X}: A {a:02X}, crossed and gated {gated:02X}; ");
             text += &format!("sum {before:02X}, corrected {after:02X}\n");
         }
-        assert_eq!(panel::one_cycle(&words, &mut main, &mut local, &mut record), 0);
+        assert_eq!(panel::one_cycle(BASIC, &words, &mut main, &mut local, &mut record), 0);
     }
     text + &format!("38 + 47 + 1 = {:02X}\n", main[0x10])
 }
@@ -46,7 +51,7 @@ fn buttons() -> String {
     assert_eq!((panel::shipped(&mut words), panel::start(0x10, 0x20, 1, 1, &mut record)), (21, 0));
     let mut main = [0; 256];
     [main[0x10], main[0x20]] = [0x38, 0x47];
-    let number = panel::run_for(&words, &mut main, &mut [0; 256], &mut record, 100);
+    let number = panel::run_for(BASIC, &words, &mut main, &mut [0; 256], &mut record, 100);
     let (cycles, kind) = (number >> 32, number % 256);
     format!("7 single cycles, then a run of {}: kind {kind}\none run of {cycles}: kind {kind}\n", cycles - 7)
         + "lamps and storage are the same\n"
@@ -57,7 +62,7 @@ fn six_by_hand(d: u8) -> String {
     let (mut words, mut record) = ([0; 21], [0; panel::STATE]);
     assert_eq!((panel::shipped(&mut words), panel::start(0, 0, 1, 0, &mut record)), (21, 0));
     [record[6], record[7], record[14]] = [d, 0x38, 0x11];
-    assert_eq!(panel::one_cycle(&words, &mut [0; 256], &mut [0; 256], &mut record), 0);
+    assert_eq!(panel::one_cycle(BASIC, &words, &mut [0; 256], &mut [0; 256], &mut record), 0);
     format!("38 + {d:02X} = {:02X}, digit carry {}, invalid {}\n", record[7], record[22], record[23])
 }
 
@@ -95,14 +100,45 @@ fn broken_into() -> String {
     assert_eq!(panel::start(0x10, 0x20, 1, 1, &mut record), 0);
     [main[0x10], main[0x20]] = [0x38, 0x47];
     let wx = |record: &[u8]| u16::from_be_bytes([record[13], record[14]]);
-    assert_eq!(panel::run_for(&words, &mut main, local, &mut record, 8), 8 << 32 | panel::SPENT);
+    assert_eq!(panel::run_for(BASIC, &words, &mut main, local, &mut record, 8), 8 << 32 | panel::SPENT);
     let from = wx(&record);
     let mut text = format!("trap to 015, from {from:03X}: {}\n", panel::trap(0x15, &mut record));
     text += &format!("a second trap: {}\n", panel::trap(0x16, &mut record));
-    assert_eq!(panel::run_for(&words, &mut main, local, &mut record, 2), 2 << 32 | panel::SPENT);
+    assert_eq!(panel::run_for(BASIC, &words, &mut main, local, &mut record, 2), 2 << 32 | panel::SPENT);
     text += &format!("two cycles later at {:03X}, G {:02X}, return owed {}\n", wx(&record), record[9], record[26]);
-    assert_eq!(panel::run_for(&words, &mut main, local, &mut record, 90) & 0xFF, panel::STOPPED);
+    assert_eq!(panel::run_for(BASIC, &words, &mut main, local, &mut record, 90) & 0xFF, panel::STOPPED);
     text + &format!("38 + 47 + 1 = {:02X}\n", main[0x10])
+}
+
+/// What it prints of a word with this CL, from R1 and G1 on and 1BC off: the next address, or the refusal and its field.
+fn read_as(reading: u8, name: &str, cl: u8) -> String {
+    let word = build(0, &[("CL", cl), ("CM", 1), ("CA", 4)]).expect("a word");
+    let mut record = [0; panel::STATE];
+    [record[7], record[9]] = [0x40; 2];
+    let answer = panel::one_cycle(reading, &[word], &mut [0; 256], &mut [0; 256], &mut record);
+    let next = u16::from_be_bytes([record[13], record[14]]);
+    let shown = match answer & 0xFF {
+        panel::RAN => format!("next word {next:03X}"),
+        _ => format!("refused by {}, field {}", answer >> 8 & 0xFF, answer >> 16),
+    };
+    format!("CL {cl}, read as {name}: {shown}\n")
+}
+
+/// What it prints of two words under both readings.
+fn two_readings() -> String {
+    let both = |cl| read_as(BASIC, "basic", cl) + &read_as(COMPATIBILITY, "compatibility", cl);
+    both(6) + &both(4)
+}
+
+/// The same as a maker reads it.
+#[test]
+fn the_readings_by_hand() {
+    let text = "CL 6, read as basic: next word 000
+CL 6, read as compatibility: next word 001
+CL 4, read as basic: refused by 10, field 5
+CL 4, read as compatibility: next word 001
+";
+    assert_eq!(two_readings(), text);
 }
 
 fn shows_the_example(said: &Said) {
@@ -115,6 +151,7 @@ fn shows_the_example(said: &Said) {
         signed_fields(),
         with_signs(),
         broken_into(),
+        two_readings(),
     ]
     .concat();
     assert_eq!((said.text(), said.status), (text, Some(0)), "{}", said.err);
@@ -191,8 +228,9 @@ int main() {
     uint8_t bytes[18] = {}, main[1] = {}, local[1] = {}, all[256] = {}, state[PANEL_STATE] = {}, work[PANEL_WORK] = {};
     std::printf(\"%u \", panel_take_apart(0, 0, bytes, 17));
     std::printf(\"%u \", panel_pack(bytes, 17, 0, words, 1));
-    std::printf(\"%u \", panel_cycle(words, 21, main, 1, local, 1, state, PANEL_STATE) / 256);
-    std::printf(\"%u \", unsigned(panel_run(words, 21, main, 1, local, 1, state, PANEL_STATE - 1, 1) / 256));
+    std::printf(\"%u \", panel_cycle(PANEL_BASIC, words, 21, main, 1, local, 1, state, PANEL_STATE) / 256);
+    uint64_t run = panel_run(PANEL_COMPATIBILITY, words, 21, main, 1, local, 1, state, PANEL_STATE - 1, 1);
+    std::printf(\"%u \", unsigned(run / 256));
     std::printf(\"%u \", panel_next_sum(words, 21, state, PANEL_STATE, work, PANEL_WORK));
     std::printf(\"%u \", unsigned(panel_add_decimal(main, 1, local, 1, 0, 0, 1, 0) / 256));
     std::printf(\"%u \", panel_read_deck(bytes, 0, words, 1) / 65536);

@@ -100,7 +100,7 @@ fn a_read_that_fails_half_way_is_told() {
 #[test]
 fn a_write_that_fails_is_told() {
     told(&said_to_full("lister", &[], &good_deck(1)), "lister: the text was not written\n");
-    for arguments in [&[][..], &["add"], &["apsp"], &["trap"]] {
+    for arguments in [&[][..], &["add"], &["apsp"], &["trap"], &["readings"]] {
         told(&said_to_full("ship", arguments, &[]), "ship: the deck was not written\n");
     }
 }
@@ -126,11 +126,32 @@ fn the_lesson_has_a_routine_of_two_words() {
     assert_eq!([Ok(words[21]), Ok(words[22])], [counts, returns]);
 }
 
+/// A word for each of the seven codes on which the readings differ, and stops between them; at 01, 05 and 07 nothing leads there.
+#[test]
+fn the_lesson_of_the_readings_has_each_of_the_seven_codes() {
+    let asks: [(u32, &[(&str, u8)]); 7] = [
+        (0x00, &[("CH", 1), ("CL", 6)]),
+        (0x03, &[("CN", 1), ("CH", 8)]),
+        (0x06, &[("CN", 2), ("CL", 4)]),
+        (0x09, &[("CN", 2), ("CH", 1), ("CL", 12)]),
+        (0x0B, &[("CN", 3), ("CS", 5)]),
+        (0x0C, &[("CN", 3), ("CL", 1), ("CS", 15)]),
+        (0x0D, &[("CN", 3), ("CH", 3)]),
+    ];
+    let words = words_of(&said("ship", &["readings"], &[]).out).expect("a deck");
+    assert_eq!(words.len(), 15);
+    for (at, word) in (0..).zip(words) {
+        let fields = asks.iter().find(|(place, _)| *place == at).map_or(&[("CF", 4)][..], |(_, fields)| *fields);
+        let all: Vec<(&str, u8)> = fields.iter().copied().chain([("CM", 1), ("CA", 4)]).collect();
+        assert_eq!(Ok(word), build(at, &all), "{at:03X}");
+    }
+}
+
 #[test]
 fn what_ship_does_not_know_is_told() {
     let names = ["", "ad", "adds", "ap", "sp", "APSP", "apsp ", "apspapsp", "apspapspapsp", "help"];
-    for name in names.into_iter().chain(["tra", "traps", "TRAP", " trap", "traptrap", "return"]) {
-        told(&said("ship", &[name], &[]), "ship: argument 1 is neither add nor apsp nor trap\n");
+    for name in names.into_iter().chain(["tra", "traps", "TRAP", " trap", "traptrap", "return", "reading", "readingss", "READINGS", "readingsreadings"]) {
+        told(&said("ship", &[name], &[]), "ship: argument 1 is neither add, apsp, trap nor readings\n");
     }
     for arguments in [&["add", "apsp"][..], &["apsp", ""], &["trap", "add"], &["x", "y", "z"]] {
         told(&said("ship", arguments, &[]), "ship: argument 2 is one too many\n");

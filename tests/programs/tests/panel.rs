@@ -4,7 +4,9 @@
 #[path = "../../second/tests/common/mod.rs"]
 mod common;
 
-use common::{any_word, chosen_numbers, each_occurs, lent, lent_to_go_on, one_of, Bench, Kind, Lent, LEAST, MOST};
+use common::{
+    any_word, chosen_numbers, each_occurs, lent, lent_to_go_on, one_of, Bench, Kind, Lent, LEAST, MOST, SEVEN,
+};
 use programs::{folder, lesson, root, run, Said};
 use second::deck::{block_check, write_deck, BLOCK, LONGEST};
 use second::panel::{self, BAD_DIGIT, RAN, REFUSED, SPENT, STATE, STOPPED, SUMMED};
@@ -89,8 +91,8 @@ impl Operation {
 enum Call {
     TakeApart { word: u64, address: u32, fields: Vec<u8> },
     Pack { fields: Vec<u8>, address: u32, word: Vec<u64> },
-    Cycle { store: Vec<u64>, main: Vec<u8>, local: Vec<u8>, state: Vec<u8> },
-    Run { store: Vec<u64>, main: Vec<u8>, local: Vec<u8>, state: Vec<u8>, budget: u32 },
+    Cycle { reading: u8, store: Vec<u64>, main: Vec<u8>, local: Vec<u8>, state: Vec<u8> },
+    Run { reading: u8, store: Vec<u64>, main: Vec<u8>, local: Vec<u8>, state: Vec<u8>, budget: u32 },
     Sum { operation: Operation, main: Vec<u8>, local: Vec<u8>, first: usize, second: usize, length: usize },
     ReadDeck { deck: Vec<u8>, words: Vec<u64> },
     WriteDeck { words: Vec<u64>, deck: Vec<u8> },
@@ -149,9 +151,12 @@ impl Call {
                 called(0).number(*word).number((*address).into()).bytes(fields)
             }
             Call::Pack { fields, address, word } => called(1).bytes(fields).number((*address).into()).words(word),
-            Call::Cycle { store, main, local, state } => called(2).words(store).bytes(main).bytes(local).bytes(state),
-            Call::Run { store, main, local, state, budget } => {
-                called(3).words(store).bytes(main).bytes(local).bytes(state).number((*budget).into())
+            Call::Cycle { reading, store, main, local, state } => {
+                called(2).number((*reading).into()).words(store).bytes(main).bytes(local).bytes(state)
+            }
+            Call::Run { reading, store, main, local, state, budget } => {
+                let lent = called(3).number((*reading).into()).words(store).bytes(main).bytes(local).bytes(state);
+                lent.number((*budget).into())
             }
             Call::Sum { operation, main, local, first, second, length } => {
                 let (number, carry) = match operation {
@@ -187,8 +192,10 @@ impl Call {
         match self {
             Call::TakeApart { word, address, fields } => panel::take_apart(*word, *address, fields),
             Call::Pack { fields, address, word } => panel::pack(fields, *address, word),
-            Call::Cycle { store, main, local, state } => panel::one_cycle(store, main, local, state),
-            Call::Run { store, main, local, state, budget } => panel::run_for(store, main, local, state, *budget),
+            Call::Cycle { reading, store, main, local, state } => panel::one_cycle(*reading, store, main, local, state),
+            Call::Run { reading, store, main, local, state, budget } => {
+                panel::run_for(*reading, store, main, local, state, *budget)
+            }
             Call::Sum { operation, main, local, first, second, length } => {
                 operation.make(main, local, *first, *second, *length)
             }
@@ -211,7 +218,7 @@ impl Call {
         match self {
             Call::TakeApart { fields, .. } => message.elements(fields),
             Call::Pack { fields, word, .. } => message.elements(fields).wide(word),
-            Call::Cycle { store, main, local, state } | Call::Run { store, main, local, state, .. } => {
+            Call::Cycle { store, main, local, state, .. } | Call::Run { store, main, local, state, .. } => {
                 message.wide(store).elements(main).elements(local).elements(state)
             }
             Call::Sum { main, local, .. } => message.elements(main).elements(local),
@@ -340,20 +347,30 @@ fn words_are_packed() {
     assert!(answers.contains(&0));
 }
 
-fn cycle_of(case: &Lent) -> Call {
+/// enum panel_reading.
+const BASIC: u8 = 0;
+const COMPATIBILITY: u8 = 1;
+
+/// "Any other value than 0 is compatibility."
+const COMPATIBLE: [u8; 4] = [COMPATIBILITY, 2, 128, 255];
+
+/// Readings to draw from.
+const READINGS: [u8; 8] = [BASIC, BASIC, BASIC, BASIC, COMPATIBILITY, 2, 128, 255];
+
+fn cycle_of(reading: u8, case: &Lent) -> Call {
     let Lent { store, main, local, state } = case.clone();
-    Call::Cycle { store, main, local, state }
+    Call::Cycle { reading, store, main, local, state }
 }
 
-fn run_of(case: &Lent, budget: u32) -> Call {
+fn run_of(reading: u8, case: &Lent, budget: u32) -> Call {
     let Lent { store, main, local, state } = case.clone();
-    Call::Run { store, main, local, state, budget }
+    Call::Run { reading, store, main, local, state, budget }
 }
 
 /// What a cycle or a run was lent.
 fn lent_to(call: Call) -> Lent {
     match call {
-        Call::Cycle { store, main, local, state } | Call::Run { store, main, local, state, .. } => {
+        Call::Cycle { store, main, local, state, .. } | Call::Run { store, main, local, state, .. } => {
             Lent { store, main, local, state }
         }
         other => panic!("no state is lent to {other:?}"),
@@ -366,11 +383,62 @@ fn endless() -> Lent {
     Lent { store, main, local, state: vec![0; STATE] }
 }
 
+/// One word in so many gets one of these codes.
+fn put_codes(random: &mut Random, one_in: u64, store: &mut [u64], codes: common::Codes) {
+    for (address, word) in (0..4096).cycle().zip(store) {
+        if random.below(one_in) == 0 {
+            *word = common::with_code(*word, address, one_of(random, codes));
+        }
+    }
+}
+
+/// A reading, and a case in whose store one word in three has one of the codes that the readings tell apart.
+fn draw_read(random: &mut Random, stray: u64) -> (u8, Lent) {
+    let mut case = lent(random, stray);
+    put_codes(random, 3, &mut case.store, &SEVEN);
+    (one_of(random, &READINGS), case)
+}
+
+/// The same for a run that goes on: one word in three has a code of the seven that the reading models, and none another.
+fn draw_read_to_go_on(random: &mut Random) -> (u8, Lent) {
+    let (reading, mut case) = (one_of(random, &READINGS), lent_to_go_on(random));
+    if reading == BASIC {
+        put_codes(random, 3, &mut case.store, &[("CH", 3), ("CH", 8), ("CL", 6)]);
+    } else {
+        case.store = common::in_compatibility(random, Bench { store: case.store, ..Bench::new(0) }).store;
+    }
+    (reading, case)
+}
+
+/// The word that a cycle or a run begins with, where there is one.
+fn next_word(store: &[u64], state: &[u8]) -> Option<u64> {
+    let wx = u16::from_be_bytes([*state.get(13)?, *state.get(14)?]);
+    store.get(usize::from(wx)).copied()
+}
+
+/// Each of the seven codes is met under each reading, by words that ran or that 10 refused.
+fn meets_each_code(calls: &[Call], answers: &[u64]) {
+    for code in SEVEN {
+        let mut met = [0; 2];
+        for (call, answer) in calls.iter().zip(answers) {
+            let Call::Cycle { reading, store, state, .. } = call else { unreachable!() };
+            let has = next_word(store, state).is_some_and(|word| common::has_code(word, code));
+            met[usize::from(*reading != BASIC)] += usize::from(has && (*answer == RAN || is_refused(*answer, 10)));
+        }
+        assert!(met[0] > 50 && met[1] > 50, "{code:?} {met:?}");
+    }
+}
+
 #[test]
 fn single_cycles() {
     let random = &mut Random::new(79);
-    let calls: Vec<Call> = (0..12_000).map(|_| cycle_of(&lent(random, 3))).collect();
+    let draw = |_| {
+        let (reading, case) = draw_read(random, 3);
+        cycle_of(reading, &case)
+    };
+    let calls: Vec<Call> = (0..12_000).map(draw).collect();
     let answers = agree(&calls);
+    meets_each_code(&calls, &answers);
     assert_eq!(refusals(&answers, 8), BTreeSet::from([1, 2, 3, 4, 5, 6, 7, 8, 9, 10, 11, 19]));
     let kinds: BTreeSet<u64> = answers.iter().map(|answer| answer & 0xFF).collect();
     assert_eq!(kinds, BTreeSet::from([0, 1, 2]));
@@ -382,9 +450,13 @@ fn single_cycles() {
 fn runs() {
     let random = &mut Random::new(83);
     let budgets = [0, 1, 2, 10, 100, 1000, 1_000_001, u32::MAX];
-    let mut calls: Vec<Call> = (0..4000).map(|_| run_of(&lent(random, 100), one_of(random, &budgets))).collect();
+    let draw = |_| {
+        let (reading, case) = draw_read(random, 100);
+        run_of(reading, &case, one_of(random, &budgets))
+    };
+    let mut calls: Vec<Call> = (0..4000).map(draw).collect();
     for budget in [0, 1, 999_999, 1_000_000, 1_000_001] {
-        calls.push(run_of(&endless(), budget));
+        calls.extend([BASIC, COMPATIBILITY].map(|reading| run_of(reading, &endless(), budget)));
     }
     let answers = agree(&calls);
     assert!(refusals(&answers, 8).is_superset(&BTreeSet::from([1, 2, 10, 11, 19, 22])));
@@ -405,7 +477,7 @@ fn record_lent(call: &Call) -> &[u8] {
 /// A cycle, a run, a trap and a start write the record, and leave what is lent past it.
 #[test]
 fn bytes_past_the_record_are_left() {
-    for past in [1, 2, 40] {
+    for (past, reading) in [(1, BASIC), (2, COMPATIBILITY), (40, 255)] {
         let mut case = endless();
         case.state.resize(STATE + past, 0xEE);
         let starts = PROGRAMS.map(|program| {
@@ -413,7 +485,7 @@ fn bytes_past_the_record_are_left() {
             Call::Start { program, first: 1, second: 2, length: 3, on: 1, state }
         });
         let trap = Call::Trap { address: 1, state: case.state.clone() };
-        for (_, call) in made(&[&[cycle_of(&case), run_of(&case, 9), trap], &starts[..]].concat()) {
+        for (_, call) in made(&[&[cycle_of(reading, &case), run_of(reading, &case, 9), trap], &starts[..]].concat()) {
             let (written, left) = record_lent(&call).split_at(STATE);
             assert_ne!(written, &case.state[..STATE], "{call:?}");
             assert_eq!(left, vec![0xEE; past], "{call:?}");
@@ -421,19 +493,20 @@ fn bytes_past_the_record_are_left() {
     }
 }
 
-/// Of any sizes and words, and one in `some` such that its run goes on.
-fn draw_cases(random: &mut Random, some: usize) -> Vec<Lent> {
-    (0..1600).map(|place| if place % some == 0 { lent_to_go_on(random) } else { lent(random, 30) }).collect()
+/// Of any readings, sizes and words, and one in `some` such that its run goes on.
+fn draw_cases(random: &mut Random, some: usize) -> Vec<(u8, Lent)> {
+    (0..1600).map(|place| if place % some == 0 { draw_read_to_go_on(random) } else { draw_read(random, 30) }).collect()
 }
 
 /// A run of each: what it answers, and what it leaves.
-fn run_each<'a>(cases: impl Iterator<Item = (&'a Lent, u32)>) -> Vec<(u64, Lent)> {
-    let calls: Vec<Call> = cases.map(|(case, budget)| run_of(case, budget)).collect();
+fn run_each<'a>(cases: impl Iterator<Item = (u8, &'a Lent, u32)>) -> Vec<(u64, Lent)> {
+    let calls: Vec<Call> = cases.map(|(reading, case, budget)| run_of(reading, case, budget)).collect();
     made(&calls).into_iter().map(|(answer, call)| (answer, lent_to(call))).collect()
 }
 
 /// A case whose single-cycle button is pressed.
 struct Pressed {
+    reading: u8,
     found: Lent,
     presses: usize,
     /// As the last press left it, or as it was found.
@@ -444,7 +517,7 @@ struct Pressed {
 /// A press for each that has one to come, on what the press before has left.
 fn press(cases: &mut [Pressed]) {
     let pressed: Vec<&mut Pressed> = cases.iter_mut().filter(|case| case.answers.len() < case.presses).collect();
-    let calls: Vec<Call> = pressed.iter().map(|case| cycle_of(&case.now)).collect();
+    let calls: Vec<Call> = pressed.iter().map(|case| cycle_of(case.reading, &case.now)).collect();
     for (case, (answer, call)) in pressed.into_iter().zip(made(&calls)) {
         case.now = lent_to(call);
         case.answers.push(answer);
@@ -454,10 +527,10 @@ fn press(cases: &mut [Pressed]) {
 const MOST_PRESSES: usize = 36;
 
 /// Each case pressed as often as is drawn.
-fn press_all(random: &mut Random, found: Vec<Lent>) -> Vec<Pressed> {
-    let begun = |found: Lent| {
+fn press_all(random: &mut Random, found: Vec<(u8, Lent)>) -> Vec<Pressed> {
+    let begun = |(reading, found): (u8, Lent)| {
         let presses = random.below(MOST_PRESSES as u64 + 1) as usize;
-        Pressed { now: found.clone(), found, presses, answers: Vec::new() }
+        Pressed { reading, now: found.clone(), found, presses, answers: Vec::new() }
     };
     let mut cases: Vec<Pressed> = found.into_iter().map(begun).collect();
     for _ in 0..MOST_PRESSES {
@@ -496,15 +569,17 @@ fn has_odd_latch(case: &Lent) -> bool {
 }
 
 /// By the case, and what its run answered.
-const BUTTONS: [Kind<(Pressed, u64)>; 11] = [
+const BUTTONS: [Kind<(Pressed, u64)>; 13] = [
     ("no press", |(case, _)| case.presses == 0),
-    ("all ran", |(_, run)| ending(*run) == SPENT && cycles(*run) > 9),
+    ("all ran in basic", |(case, run)| case.reading == BASIC && ending(*run) == SPENT && cycles(*run) > 9),
+    ("all ran in compatibility", |(case, run)| case.reading != BASIC && ending(*run) == SPENT && cycles(*run) > 9),
     ("stopped at once", |(_, run)| *run == STOPPED),
     ("stopped later", |(_, run)| ending(*run) == STOPPED && cycles(*run) > 0),
     ("refused by 1", |(case, run)| is_refused(*run, 1) && case.presses > 0),
     ("refused by 19", |(case, run)| is_refused(*run, 19) && case.presses > 0),
     ("refused at once by 10", |(_, run)| is_refused(*run, 10) && cycles(*run) == 0),
-    ("refused later by 10", |(_, run)| is_refused(*run, 10) && cycles(*run) > 0),
+    ("refused later by 10", |(case, run)| case.reading == BASIC && is_refused(*run, 10) && cycles(*run) > 0),
+    ("the same in compatibility", |(case, run)| case.reading != BASIC && is_refused(*run, 10) && cycles(*run) > 0),
     ("refused later by 11", |(_, run)| is_refused(*run, 11) && cycles(*run) > 0),
     ("an odd latch, and cycles ran", |(case, run)| has_odd_latch(&case.found) && cycles(*run) > 0),
     ("an odd latch, and none ran", |(case, run)| has_odd_latch(&case.found) && cycles(*run) == 0),
@@ -515,7 +590,7 @@ fn buttons() {
     let random = &mut Random::new(137);
     let found = draw_cases(random, 8);
     let cases = press_all(random, found);
-    let runs = run_each(cases.iter().map(|case| (&case.found, case.presses as u32)));
+    let runs = run_each(cases.iter().map(|case| (case.reading, &case.found, case.presses as u32)));
     for (case, (answer, left)) in cases.iter().zip(&runs) {
         are_a_run(case, *answer, left);
     }
@@ -559,19 +634,275 @@ fn are_one_run(case: &Division, left: &Lent, answer: u64, whole: &Lent) {
 #[test]
 fn divided_runs() {
     let random = &mut Random::new(139);
-    let mut cases: Vec<(Lent, [u32; 2])> =
-        draw_cases(random, 3).into_iter().map(|case| (case, common::draw_budgets(random))).collect();
-    cases.extend([0, 1, 999_999, 1_000_000].map(|cut| (endless(), [cut, 1_000_000 - cut])));
-    let first = run_each(cases.iter().map(|(case, budgets)| (case, budgets[0])));
-    let second = run_each(first.iter().zip(&cases).map(|((_, left), (_, budgets))| (left, budgets[1])));
-    let whole = run_each(cases.iter().map(|(case, budgets)| (case, budgets[0] + budgets[1])));
+    let mut cases: Vec<(u8, Lent, [u32; 2])> = draw_cases(random, 3)
+        .into_iter()
+        .map(|(reading, case)| (reading, case, common::draw_budgets(random)))
+        .collect();
+    cases.extend([0, 1, 999_999, 1_000_000].map(|cut| (one_of(random, &READINGS), endless(), [cut, 1_000_000 - cut])));
+    let first = run_each(cases.iter().map(|(reading, case, budgets)| (*reading, case, budgets[0])));
+    let again = first.iter().zip(&cases).map(|((_, left), (reading, _, budgets))| (*reading, left, budgets[1]));
+    let second = run_each(again);
+    let whole = run_each(cases.iter().map(|(reading, case, budgets)| (*reading, case, budgets[0] + budgets[1])));
     let mut divisions = Vec::new();
-    for (place, (_, budgets)) in cases.into_iter().enumerate() {
+    for (place, (_, _, budgets)) in cases.into_iter().enumerate() {
         let division = Division { budgets, answers: [first[place].0, second[place].0] };
         are_one_run(&division, &second[place].1, whole[place].0, &whole[place].1);
         divisions.push(division);
     }
     each_occurs(&DIVISIONS, &divisions);
+}
+
+/// The codes of CH, CL and CS that are not modelled, in basic and in compatibility.
+const NOT_MODELLED: [[&[u8]; 3]; 2] = [[&[4, 5], &[3, 4, 12, 15], &[5, 14, 15]], [&[3, 4, 5], &[3, 15], &[14]]];
+
+/// Refused by 10, with this field.
+fn no_code(field: u64) -> u64 {
+    REFUSED + 256 * 10 + 65536 * field
+}
+
+/// A word and nothing else, with this record.
+fn alone(word: u64, state: &[u8]) -> Lent {
+    Lent { store: vec![word], main: vec![0], local: vec![0; 256], state: state.to_vec() }
+}
+
+/// What a run of one cycle answers where the cycle answers this.
+fn run_of_one(answer: u64) -> u64 {
+    if answer == RAN {
+        1 << 32 | SPENT
+    } else {
+        answer
+    }
+}
+
+/// Every CH, CL and CS beside each other, from any record: 10 names the first that the reading does not model.
+#[test]
+fn refusal_10_follows_the_reading() {
+    let random = &mut Random::new(179);
+    let (mut calls, mut expected) = (Vec::new(), Vec::new());
+    for case in 0..2 * 4096_u16 {
+        let codes = [case % 16, case / 16 % 16, case / 256 % 16].map(|code| code as u8);
+        let reading = if case < 4096 { BASIC } else { one_of(random, &COMPATIBLE) };
+        let [ch, cl, cs] = codes;
+        let word = build(0, &[("CH", ch), ("CL", cl), ("CM", 1), ("CA", 4), ("CS", cs)]).expect("a word");
+        let mut state = bytes(random, STATE);
+        state[13..15].fill(0);
+        calls.push(cycle_of(reading, &alone(word, &state)));
+        let fields = [4, 5, 20].into_iter().zip(NOT_MODELLED[usize::from(reading != BASIC)]);
+        let first = fields.zip(codes).find(|((_, refused), code)| refused.contains(code));
+        expected.push(first.map_or(RAN, |((field, _), _)| no_code(field)));
+    }
+    assert_eq!(agree(&calls), expected);
+}
+
+/// What a reading makes of one of the seven codes.
+#[derive(Clone, Copy, Debug)]
+enum Meaning {
+    NotModelled,
+    /// Whether V6 and V7 are both 0.
+    NoV67,
+    /// Whether a bit of a byte of the record is 1; a latch is on at any value but 0.
+    Lit(usize, u8),
+    TurnsS1(bool),
+}
+
+/// Request 7: each code, the number of its field, and what basic and compatibility make of it.
+const MEANINGS: [(&str, u8, u64, [Meaning; 2]); 7] = [
+    ("CH", 3, 4, [Meaning::NoV67, Meaning::NotModelled]),
+    ("CH", 8, 4, [Meaning::Lit(8, 0x40), Meaning::Lit(7, 0x20)]),
+    ("CL", 4, 5, [Meaning::NotModelled, Meaning::Lit(9, 0x40)]),
+    ("CL", 6, 5, [Meaning::Lit(16, 0xFF), Meaning::Lit(7, 0x40)]),
+    ("CL", 12, 5, [Meaning::NotModelled, Meaning::Lit(7, 0x10)]),
+    ("CS", 5, 20, [Meaning::NotModelled, Meaning::TurnsS1(true)]),
+    ("CS", 15, 20, [Meaning::NotModelled, Meaning::TurnsS1(false)]),
+];
+
+/// What a cycle answers of a word with this code and no work, and then the low byte of WX, and S. An arriving byte is in R
+/// before R is tested.
+fn by_hand(name: &str, field: u64, meaning: Meaning, record: &[u8]) -> (u64, u8, u8) {
+    let x = |on: bool| u8::from(on) << u8::from(name == "CH");
+    let tested = |place: usize| record[if place == 7 && record[20] != 0 { 21 } else { place }];
+    let s = record[8];
+    match meaning {
+        Meaning::NotModelled => (no_code(field), 0, s),
+        Meaning::NoV67 => (RAN, x(record[3] & 3 == 0), s),
+        Meaning::Lit(place, bits) => (RAN, x(tested(place) & bits != 0), s),
+        Meaning::TurnsS1(on) => (RAN, 0, s & 0xBF | u8::from(on) << 6),
+    }
+}
+
+/// Records at word 0: one lamp is lit alone, one is dark alone with nothing arriving, and drawn ones.
+fn records(random: &mut Random) -> Vec<Vec<u8>> {
+    let mut records: Vec<Vec<u8>> = (0..200).map(|_| bytes(random, STATE)).collect();
+    for (place, bit) in (0..STATE).flat_map(|place| (0..8).map(move |bit| (place, 1 << bit))) {
+        let [mut lit, mut dark] = [vec![0; STATE], vec![0xFF; STATE]];
+        lit[place] = bit;
+        dark[place] = if LATCHES.contains(&place) { 0 } else { !bit };
+        dark[20] = 0;
+        records.extend([lit, dark]);
+    }
+    for record in &mut records {
+        record[13..15].fill(0);
+    }
+    records
+}
+
+/// By one cycle, and by a run of one: each of the seven codes tests or turns what request 7 says, and nothing else.
+#[test]
+fn the_seven_codes_by_hand() {
+    let records = records(&mut Random::new(181));
+    for (name, code, field, meanings) in MEANINGS {
+        let word = build(0, &[("CM", 1), ("CA", 4), (name, code)]).expect("a word");
+        for reading in [BASIC, COMPATIBILITY, 2, 128, 255] {
+            let meaning = meanings[usize::from(reading != BASIC)];
+            let cases: Vec<Lent> = records.iter().map(|record| alone(word, record)).collect();
+            let cycles: Vec<Call> = cases.iter().map(|case| cycle_of(reading, case)).collect();
+            let runs = run_each(cases.iter().map(|case| (reading, case, 1)));
+            for ((record, (answer, after)), (run, left)) in records.iter().zip(made(&cycles)).zip(runs) {
+                let what = format!("{name} {code} under {reading} from {record:02X?}");
+                let state = record_lent(&after);
+                assert_eq!((answer, state[14], state[8]), by_hand(name, field, meaning, record), "{what}");
+                assert_eq!((run, &left.state[..]), (run_of_one(answer), state), "{what}");
+            }
+        }
+    }
+}
+
+/// R1 and G1 are on, and 1BC is off: CL 6 and CL 4 lead to 001 in compatibility alone.
+#[test]
+fn every_value_but_0_is_compatibility() {
+    let mut record = [0; STATE];
+    [record[7], record[9]] = [0x40; 2];
+    for (cl, basic) in [(6, RAN), (4, no_code(5))] {
+        let case = alone(build(0, &[("CL", cl), ("CM", 1), ("CA", 4)]).expect("a word"), &record);
+        let cycles: Vec<Call> = (0..=255).map(|reading| cycle_of(reading, &case)).collect();
+        let runs: Vec<Call> = (0..=255).map(|reading| run_of(reading, &case, 1)).collect();
+        for (reading, ((answer, after), (run, ran))) in made(&cycles).into_iter().zip(made(&runs)).enumerate() {
+            let expected = if reading == 0 { (basic, 0) } else { (RAN, 1) };
+            assert_eq!((answer, record_lent(&after)[14]), expected, "CL {cl} under {reading}");
+            assert_eq!((run, record_lent(&ran)[14]), (run_of_one(answer), expected.1), "CL {cl} under {reading}");
+        }
+    }
+}
+
+/// A cycle in compatibility of a word with these codes, from these R and D, a byte that is arriving, and all else 0.
+fn compatible(codes: common::Codes, [r, d]: [u8; 2], [arriving, byte]: [u8; 2]) -> Vec<u8> {
+    let word = build(0, codes).expect("a word");
+    let call = cycle_of(COMPATIBILITY, &alone(word, &record_of([0, r, d], [arriving, byte])));
+    let (answer, after) = made(&[call]).remove(0);
+    assert_eq!(answer, RAN, "{codes:?}");
+    record_lent(&after).to_vec()
+}
+
+/// R2, R1 and R3 are tested with an arriving byte in R, which a Store drops.
+#[test]
+fn the_bits_of_r_are_those_of_the_arriving_byte() {
+    for (name, code, bit, x) in [("CH", 8, 0x20, 2), ("CL", 6, 0x40, 1), ("CL", 12, 0x10, 1)] {
+        for (cm, arrives) in [(0, true), (1, true), (2, false)] {
+            for (r, byte, lit) in [(bit, !bit, !arrives), (!bit, bit, arrives)] {
+                let left = compatible(&[("CM", cm), ("CA", 4), (name, code)], [r, 0], [1, byte]);
+                assert_eq!(left[14], x * u8::from(lit), "{name} {code}, CM {cm}, R {r:02X}, arriving {byte:02X}");
+            }
+        }
+    }
+}
+
+/// The result, R + D, goes to S; then S1 is turned; then S3 takes the new AC. Worked by hand.
+#[test]
+fn s1_is_turned_between_the_result_and_the_carry() {
+    let plain = [("CM", 1), ("CA", 7), ("CB", 2), ("CD", 6), ("CF", 3), ("CG", 3), ("CC", 4)];
+    for (sum, cs, s) in [
+        ([0x80, 0x85], 5, 0x55),
+        ([0x00, 0x00], 5, 0x40),
+        ([0xFF, 0xFF], 5, 0xFE),
+        ([0xFF, 0x00], 15, 0xAF),
+        ([0xFF, 0x01], 15, 0x10),
+        ([0x40, 0x00], 15, 0x00),
+    ] {
+        let left = compatible(&[&plain[..], &[("CS", cs)]].concat(), sum, [0, 0]);
+        assert_eq!(left[8], s, "{sum:02X?}, CS {cs}");
+    }
+}
+
+/// What one case answers and leaves under both readings.
+type Both = [(u64, Lent); 2];
+
+/// A run of each case under both readings; compatibility is any value but 0.
+fn run_both(random: &mut Random, cases: &[(Lent, u32)]) -> Vec<Both> {
+    let mut run = |readings: &[u8]| {
+        let readings: Vec<u8> = cases.iter().map(|_| one_of(random, readings)).collect();
+        run_each(readings.into_iter().zip(cases).map(|(reading, (case, budget))| (reading, case, *budget)))
+    };
+    let (basic, compatibility) = (run(&[BASIC]), run(&COMPATIBLE));
+    basic.into_iter().zip(compatibility).map(Both::from).collect()
+}
+
+/// One word in eight stops, whatever its codes.
+fn put_stops(random: &mut Random, store: &mut [u64]) {
+    put_codes(random, 8, store, &[("CF", 4)]);
+}
+
+/// No word that 3 to 9 accept has one of the seven codes any more.
+fn take_codes_out(store: &mut [u64]) {
+    for (address, word) in (0..4096).cycle().zip(store) {
+        for (name, code) in SEVEN {
+            if common::has_code(*word, (name, code)) {
+                *word = common::with_code(*word, address, (name, u8::from(name != "CS")));
+            }
+        }
+    }
+}
+
+const SAME: [Kind<u64>; 5] = [
+    ("spent", |run| ending(*run) == SPENT && cycles(*run) > 9),
+    ("stopped", |run| ending(*run) == STOPPED),
+    ("refused at once by 10", |run| is_refused(*run, 10) && cycles(*run) == 0),
+    ("refused later by 10", |run| is_refused(*run, 10) && cycles(*run) > 0),
+    ("refused by 11", |run| is_refused(*run, 11)),
+];
+
+/// "A store that uses none of these seven codes must run the same under both."
+#[test]
+fn a_store_with_none_of_the_seven_codes_runs_the_same() {
+    let random = &mut Random::new(191);
+    let found = draw_cases(random, 8);
+    let draw = |(_, mut case): (u8, Lent)| {
+        take_codes_out(&mut case.store);
+        (case, one_of(random, &[1, 1, 30, 300]))
+    };
+    let cases: Vec<(Lent, u32)> = found.into_iter().map(draw).collect();
+    let mut answers = Vec::new();
+    for [(basic, left), (compatibility, other)] in run_both(random, &cases) {
+        assert!(basic == compatibility && left == other, "{basic:X} and {compatibility:X}");
+        answers.push(basic);
+    }
+    each_occurs(&SAME, &answers);
+}
+
+/// Sizes, WX, 3 to 9, a budget that is too large and a stop know no reading, and come before 10: what ends a run at once by
+/// one of these does so under either. Else the two may part.
+#[test]
+fn a_reading_changes_no_other_refusal_and_no_stop() {
+    let random = &mut Random::new(193);
+    let draw = |_| {
+        let (_, mut case) = draw_read(random, 3);
+        put_stops(random, &mut case.store);
+        (case, one_of(random, &[1, 1, 1, 1, 1, 1, 1, 1_000_001]))
+    };
+    let cases: Vec<(Lent, u32)> = (0..6000).map(draw).collect();
+    let (mut ends, mut parted) = (BTreeSet::new(), 0);
+    for [(basic, left), (compatibility, other)] in run_both(random, &cases) {
+        for answer in [basic, compatibility] {
+            let read = cycles(answer) > 0 || is_refused(answer, 10) || is_refused(answer, 11);
+            if !read {
+                assert_eq!((basic, &left), (compatibility, &other));
+                ends.insert(answer);
+            }
+        }
+        parted += usize::from(basic != compatibility || left != other);
+    }
+    let refused = [1, 2, 3, 4, 5, 6, 7, 8, 9, 19, 22].map(|number| REFUSED + 256 * number);
+    assert_eq!(ends, refused.into_iter().chain([STOPPED]).collect());
+    assert!(parted > 300, "{parted} runs part");
 }
 
 /// Bytes of good digits, of which one may be spoilt.
@@ -801,20 +1132,21 @@ fn decks_are_written() {
     assert!(answers.contains(&(LONGEST as u64)));
 }
 
-/// How the second engine answers a cycle from here, with as many words as a cycle takes, and main storage at every
-/// address: its kind and its refusal.
-fn cycle_from(store: &[u64], state: &[u8]) -> (u64, u64) {
+/// How the second engine answers a cycle from here under a reading, with as many words as a cycle takes, and main storage at
+/// every address: its kind and its refusal.
+fn cycle_from(reading: u8, store: &[u64], state: &[u8]) -> (u64, u64) {
     let store = &store[..store.len().min(4096)];
-    let answer = panel::one_cycle(store, &mut vec![0; 65_536], &mut [0; 256], &mut state.to_vec());
+    let answer = panel::one_cycle(reading, store, &mut vec![0; 65_536], &mut [0; 256], &mut state.to_vec());
     (answer & 0xFF, answer >> 8 & 0xFF)
 }
 
+/// It knows no reading: a code that is modelled in neither has its work too.
 #[test]
 fn the_work_of_the_next_word() {
     let random = &mut Random::new(103);
     let calls: Vec<Call> = (0..12_000)
         .map(|_| {
-            let Lent { store, state, .. } = lent(random, 3);
+            let (_, Lent { store, state, .. }) = draw_read(random, 3);
             let room = one_of(random, &[0, 7, 8, 8, 8, 8, 8, 8, 9, 40]);
             Call::NextSum { store, state, work: bytes(random, room) }
         })
@@ -823,14 +1155,15 @@ fn the_work_of_the_next_word() {
     for (call, answer) in calls.iter().zip(agree(&calls)) {
         let Call::NextSum { store, state, work } = call else { unreachable!() };
         let short = state.len() < STATE || work.len() < 8;
-        let cycle = cycle_from(store, state);
-        let expected = match cycle {
-            _ if short => 19,
-            (0, _) | (2, 10) => 0,
-            _ => 1,
-        };
-        assert_eq!(answer, expected, "{call:?}");
-        seen.insert((answer, if short { (0, 0) } else { cycle }));
+        for cycle in [BASIC, COMPATIBILITY].map(|reading| cycle_from(reading, store, state)) {
+            let expected = match cycle {
+                _ if short => 19,
+                (0, _) | (2, 10) => 0,
+                _ => 1,
+            };
+            assert_eq!(answer, expected, "{call:?}");
+            seen.insert((answer, if short { (0, 0) } else { cycle }));
+        }
     }
     // An empty store is 1 to a cycle.
     let nothing = BTreeSet::from_iter((1..=9).map(|number| (1, (2, number))));
@@ -999,7 +1332,7 @@ fn lamps_after(codes: common::Codes, registers: [u8; 3], lamps: [u8; 2]) -> Left
     let word = build(0, &[&plain, codes].concat()).expect("a word");
     let mut state = record_of(registers, [0, 0]).to_vec();
     state[22..24].copy_from_slice(&lamps);
-    let call = Call::Cycle { store: vec![word], main: vec![0], local: vec![0; 256], state };
+    let call = Call::Cycle { reading: BASIC, store: vec![word], main: vec![0], local: vec![0; 256], state };
     let (answer, after) = made(&[call]).remove(0);
     let left = record_lent(&after);
     (answer, left[4], [left[22], left[23]])
@@ -1046,7 +1379,7 @@ fn the_shipped_words() {
     }
 }
 
-/// A call of an entry, and the run of its program's words from its start over the same storage.
+/// A call of an entry, and the run of its program's words from its start over the same storage, "under basic".
 fn sum_and_run(random: &mut Random, program: Program) -> [Call; 2] {
     let (mut words, mut state) = (program.words().to_vec(), vec![0; STATE]);
     let (starts, length) =
@@ -1056,7 +1389,8 @@ fn sum_and_run(random: &mut Random, program: Program) -> [Call; 2] {
     let (main, local) = (draw_main(random, operation, 64, starts, length as usize), bytes(random, 256));
     assert_eq!(program.shipped(&mut words), words.len() as u64);
     assert_eq!(program.start(starts[0] as u16, starts[1] as u16, length as u8, on, &mut state), 0);
-    let run = Call::Run { store: words, main: main.clone(), local: local.clone(), state, budget: 1_000_000 };
+    let (reading, budget) = (BASIC, 1_000_000);
+    let run = Call::Run { reading, store: words, main: main.clone(), local: local.clone(), state, budget };
     let [first, second] = starts;
     [Call::Sum { operation, main, local, first, second, length: length as usize }, run]
 }
@@ -1447,7 +1781,7 @@ fn steps(begun: &Lent, trapped: Option<usize>) -> Vec<Call> {
             calls.push(Call::Trap { address: ROUTINE, state: now.state.clone() });
             assert_eq!(panel::trap(ROUTINE, &mut now.state), 0);
         }
-        let mut call = cycle_of(&now);
+        let mut call = cycle_of(BASIC, &now);
         calls.push(call.clone());
         if call.make() != RAN {
             break;
@@ -1499,8 +1833,8 @@ fn a_run_broken_into_has_the_same_sum() {
     assert!(others > 5, "{others} runs end otherwise");
 }
 
-/// A cycle of a return word with these CM, CH and CL, from any record with this latch.
-fn draw_return(random: &mut Random, [cm, ch, cl]: [u8; 3], owed: u8) -> Call {
+/// A cycle of a return word with these CM, CH and CL under a reading, from any record with this latch.
+fn draw_return(random: &mut Random, (reading, [cm, ch, cl], owed): Return) -> Call {
     let mut fields = common::draw_modelled(random);
     for (name, code) in [("CM", cm), ("CH", ch), ("CL", cl), ("CU", 0)] {
         fields[index_of(name)] = code;
@@ -1516,37 +1850,43 @@ fn draw_return(random: &mut Random, [cm, ch, cl]: [u8; 3], owed: u8) -> Call {
         state[latch] = one_of(random, &[0, 0, 1, 7, 255]);
     }
     state[26] = owed;
-    Call::Cycle { store, main: bytes(random, 1024), local: bytes(random, 256), state }
+    Call::Cycle { reading, store, main: bytes(random, 1024), local: bytes(random, 256), state }
 }
 
-/// Every CM, CH and CL of a return word, with the latch off as often as on.
-fn return_codes() -> impl Iterator<Item = ([u8; 3], u8)> {
+/// A return word: the reading, its CM, CH and CL, and the latch of a return that is owed.
+type Return = (u8, [u8; 3], u8);
+
+/// Every CM, CH and CL of a return word under both readings, with the latch off as often as on.
+fn return_codes() -> impl Iterator<Item = Return> {
     let codes = (0..3).flat_map(|cm| (0..16).flat_map(move |ch| (0..16).map(move |cl| [cm, ch, cl])));
-    codes.flat_map(|codes| [0, 0, 0, 0, 1, 1, 7, 255].map(|owed| (codes, owed)))
+    let read = codes.flat_map(|codes| [BASIC, COMPATIBILITY].map(|reading| (reading, codes)));
+    read.flat_map(|(reading, codes)| [0, 0, 0, 0, 0, 0, 1, 1, 1, 7, 7, 255].map(|owed| (reading, codes, owed)))
 }
 
-/// The codes that are modelled in a return word: CL = 2 is refused by 8, and of CH and CL those that no word may have.
-fn may_return([_, ch, cl]: [u8; 3]) -> bool {
-    ![4, 5].contains(&ch) && ![2, 3, 4, 12, 15].contains(&cl)
+/// The codes that are modelled in a return word: CL = 2 is refused by 8, and of CH and CL those that no word of the reading
+/// may have.
+fn may_return(reading: u8, [_, ch, cl]: [u8; 3]) -> bool {
+    let [no_ch, no_cl, _] = NOT_MODELLED[usize::from(reading)];
+    cl != 2 && !no_ch.contains(&ch) && !no_cl.contains(&cl)
 }
 
 /// WX is FWX, over anything CH and CL say; FWX stays, and the latch goes out.
 #[test]
 fn return_words() {
     let random = &mut Random::new(173);
-    let calls: Vec<Call> = return_codes().map(|(codes, owed)| draw_return(random, codes, owed)).collect();
+    let calls: Vec<Call> = return_codes().map(|drawn| draw_return(random, drawn)).collect();
     let (mut answers, mut ran) = (Vec::new(), BTreeSet::new());
-    for ((call, (codes, owed)), (answer, after)) in calls.iter().zip(return_codes()).zip(made(&calls)) {
+    for ((call, (reading, codes, owed)), (answer, after)) in calls.iter().zip(return_codes()).zip(made(&calls)) {
         assert_eq!(is_refused(answer, 8), codes[2] == 2, "{codes:?}");
         if answer == RAN {
             let (fwx, left) = (&record_lent(call)[24..26], record_lent(&after));
             assert_eq!((&left[13..15], &left[24..26], left[26]), (fwx, fwx, 0), "{codes:?}");
-            ran.insert((codes, owed != 0));
+            ran.insert((reading, codes, owed != 0));
         }
         answers.push(answer);
     }
-    let every = return_codes().filter(|(codes, _)| may_return(*codes)).map(|(codes, owed)| (codes, owed != 0));
-    assert_eq!(ran, every.collect());
+    let every = return_codes().filter(|(reading, codes, _)| may_return(*reading, *codes));
+    assert_eq!(ran, every.map(|(reading, codes, owed)| (reading, codes, owed != 0)).collect());
     assert_eq!(refusals(&answers, 8), BTreeSet::from([8, 10, 11]));
     // 10 no longer names CU, which is 7.
     assert_eq!(refusals(&answers, 16), BTreeSet::from([4, 5, 8, 9, 12, 15, 20, 21]));

@@ -3,6 +3,7 @@
 use crate::adder::Work;
 use crate::cycle::{cycle, next_work, Answer};
 use crate::decimal::{add_decimal, Outcome};
+use crate::reading::Reading;
 use crate::run::Ending;
 use crate::shipped::{self, APSP, SHIPPED};
 use crate::state::{State, RECORD};
@@ -308,13 +309,15 @@ fn push_trap(text: &mut String, state: &mut State, address: u32) {
 }
 
 /// A run with no trap in it.
-pub fn run(store: &[u64], main: &[u8], start: State, budget: u64, view: &View) -> (String, Ending) {
-    run_with_traps(store, main, start, budget, &[], view)
+pub fn run(reading: Reading, store: &[u64], main: &[u8], start: State, budget: u64, view: &View) -> (String, Ending) {
+    run_with_traps(reading, store, main, start, budget, &[], view)
 }
 
-/// A run from a state, with local storage of zeros: all that is printed of it, and how it ended. The traps stand in any
-/// order, no two of them before one cycle; one before a cycle that the run does not come to is not made.
+/// A run from a state, with local storage of zeros: all that is printed of it, and how it ended. The reading is not
+/// printed. The traps stand in any order, no two of them before one cycle; one before a cycle that the run does not come to
+/// is not made.
 pub fn run_with_traps(
+    reading: Reading,
     store: &[u64],
     main: &[u8],
     start: State,
@@ -331,7 +334,7 @@ pub fn run_with_traps(
             push_trap(&mut text, &mut state, asked.address);
         }
         let (at, work) = (state.wx, next_work(store, &state));
-        match cycle(store, &mut main, &mut local, &mut state) {
+        match cycle(reading, store, &mut main, &mut local, &mut state) {
             Answer::Ran => view.push(&mut text, number, at, &state, &work.expect("the work of a cycle that ran")),
             Answer::Stopped => ending = Ending::Stopped,
             Answer::Refused { number, field } => ending = Ending::Refused { number, field },
@@ -382,9 +385,9 @@ fn result(first: &str, second: &str, main: &mut [u8], length: usize, carry: bool
     }
 }
 
-/// The cycles of a shipped program over main storage, from its start.
+/// The cycles of a shipped program over main storage, from its start; "the shipped programs are run under basic".
 fn cycles(program: &[u64], main: &[u8], start: State, view: &View) -> String {
-    run(program, main, start, shipped::bound(&start), view).0
+    run(Reading::Basic, program, main, start, shipped::bound(&start), view).0
 }
 
 /// All that is printed of an addition of two numbers of 1 to 32 digits.
@@ -619,7 +622,7 @@ CYCLE     12 AT 00F
 
     /// A line of `TRAP` and one of an ending as they are, and of the others the cycle's number and address.
     fn outline(traps: &[Trap], budget: u64, view: &View) -> Vec<String> {
-        let (text, _) = run_with_traps(&trapped(), &[0], State::default(), budget, traps, view);
+        let (text, _) = run_with_traps(Reading::Basic, &trapped(), &[0], State::default(), budget, traps, view);
         let said = ["TRAP", "STOPPED", "SPENT", "REFUSED"];
         let short = |line: &str| {
             let whole = said.iter().any(|word| line.starts_with(word));
@@ -674,7 +677,7 @@ CYCLE     12 AT 00F
         // From a stop, and from where there is no word.
         for at in [0xA1, 0xA2] {
             let start = State { wx: at, ..State::default() };
-            let (text, ending) = run_with_traps(&trapped(), &[0], start, 1, &traps([(1, 0)]), view);
+            let (text, ending) = run_with_traps(Reading::Basic, &trapped(), &[0], start, 1, &traps([(1, 0)]), view);
             let lines: Vec<&str> = text.lines().skip(1).collect();
             assert_eq!((lines[0], lines[2]), (&*format!("TRAP TO 000, FROM {at:03X}"), "SPENT AT 001"));
             assert_eq!(ending, Ending::Spent);
@@ -688,7 +691,7 @@ CYCLE     12 AT 00F
         for lamps in [false, true] {
             for (from, to) in [(0, u64::MAX), (0, 0), (3, 3), (99, 99)] {
                 let view = View { lamps, from, to };
-                let (text, _) = run_with_traps(&trapped(), &[0], State::default(), 4, &asked, &view);
+                let (text, _) = run_with_traps(Reading::Basic, &trapped(), &[0], State::default(), 4, &asked, &view);
                 let lines: Vec<&str> = text.lines().filter(|line| line.starts_with("TRAP")).collect();
                 assert_eq!(lines, told);
                 let rest: String = text.split_inclusive('\n').filter(|line| !line.starts_with("TRAP")).collect();
@@ -700,8 +703,9 @@ CYCLE     12 AT 00F
     #[test]
     fn without_traps_it_is_the_run() {
         for view in [View::LINES, View::LAMPS] {
-            let of = |asked: &[Trap]| run_with_traps(&trapped(), &[0], State::default(), 7, asked, &view);
-            assert_eq!(of(&[]), run(&trapped(), &[0], State::default(), 7, &view));
+            let of =
+                |asked: &[Trap]| run_with_traps(Reading::Basic, &trapped(), &[0], State::default(), 7, asked, &view);
+            assert_eq!(of(&[]), run(Reading::Basic, &trapped(), &[0], State::default(), 7, &view));
             // One that is refused leaves a line, and nothing else.
             let (text, ending) = of(&traps([(5, 4096)]));
             let rest: String = text.split_inclusive('\n').filter(|line| !line.starts_with("TRAP")).collect();

@@ -3,6 +3,7 @@
 use crate::adder::{self, Controls, Correction, Work};
 use crate::bits::{bit, with_bit};
 use crate::branch::{next_address, X6, X7};
+use crate::reading::Reading;
 use crate::registers::{source_a, source_b, A_SOURCE, DESTINATION};
 use crate::state::{State, R, S};
 use crate::status::STATUS;
@@ -28,21 +29,21 @@ pub const MOST_MAIN: usize = 65_536;
 pub const LOCAL_BYTES: usize = 256;
 const STOP: u8 = 4;
 
-/// Whether a field's code has a meaning in its word.
-type Modelled = fn(&Word) -> bool;
+/// Whether a field's code has a meaning in its word, under a reading.
+type Modelled = fn(Reading, &Word) -> bool;
 
 /// For each field that can lack a meaning, in word order.
 static MODELLED: [(usize, Modelled); 10] = [
-    (CH, |word| X6[usize::from(word[CH])].is_some()),
-    (CL, |word| X7[usize::from(word[CL])].is_some()),
-    (CM, |word| ACTION[usize::from(word[CM])].is_some()),
-    (CU, cu_modelled),
-    (CA, |word| ca_to_w(word) || A_SOURCE[usize::from(word[CA])].is_some()),
-    (AA, |word| word[AA] == 0),
-    (AK, |word| word[AK] == 0),
-    (CD, |word| DESTINATION[usize::from(word[CD])].is_some()),
-    (CS, |word| STATUS[usize::from(word[CS])].is_some()),
-    (AS, |word| word[AS] == 0),
+    (CH, |reading, word| X6[usize::from(word[CH])].under(reading).is_some()),
+    (CL, |reading, word| X7[usize::from(word[CL])].under(reading).is_some()),
+    (CM, |_, word| ACTION[usize::from(word[CM])].is_some()),
+    (CU, |_, word| cu_modelled(word)),
+    (CA, |_, word| ca_to_w(word) || A_SOURCE[usize::from(word[CA])].is_some()),
+    (AA, |_, word| word[AA] == 0),
+    (AK, |_, word| word[AK] == 0),
+    (CD, |_, word| DESTINATION[usize::from(word[CD])].is_some()),
+    (CS, |reading, word| STATUS[usize::from(word[CS])].under(reading).is_some()),
+    (AS, |_, word| word[AS] == 0),
 ];
 
 /// Refusal 1 of main and local storage alone.
@@ -55,25 +56,32 @@ pub fn sizes_fit(store: &[u64], main: &[u8], local: &[u8]) -> bool {
     (1..=MOST_WORDS).contains(&store.len()) && storage_fits(main, local)
 }
 
-/// The first field in word order whose code is not modelled, by number, or 0.
-pub fn not_modelled(word: &Word) -> u8 {
-    let missing = MODELLED.iter().find(|(_, modelled)| !modelled(word));
+/// The first field in word order whose code is not modelled, by number, or 0: "10 follows the reading's own list".
+pub fn not_modelled(reading: Reading, word: &Word) -> u8 {
+    let missing = MODELLED.iter().find(|(_, modelled)| !modelled(reading, word));
     missing.map_or(0, |(place, _)| *place as u8 + 1)
 }
 
-/// One cycle. Unless it ran, nothing has changed.
-pub fn cycle(store: &[u64], main: &mut [u8], local: &mut [u8], state: &mut State) -> Answer {
-    cycle_with(adder::correct_by_rule, store, main, local, state)
+/// One cycle of a store under a reading. Unless it ran, nothing has changed.
+pub fn cycle(reading: Reading, store: &[u64], main: &mut [u8], local: &mut [u8], state: &mut State) -> Answer {
+    cycle_with(reading, adder::correct_by_rule, store, main, local, state)
 }
 
 /// The same, with decimal sums corrected by the table.
-pub fn cycle_by_table(store: &[u64], main: &mut [u8], local: &mut [u8], state: &mut State) -> Answer {
-    cycle_with(adder::correct_by_table, store, main, local, state)
+pub fn cycle_by_table(reading: Reading, store: &[u64], main: &mut [u8], local: &mut [u8], state: &mut State) -> Answer {
+    cycle_with(reading, adder::correct_by_table, store, main, local, state)
 }
 
-fn cycle_with(correct: Correction, store: &[u64], main: &mut [u8], local: &mut [u8], state: &mut State) -> Answer {
-    let turn = checked_word(store, main, local, state)
-        .and_then(|word| steps(correct, &word, &mut Storage { main, local }, state));
+fn cycle_with(
+    reading: Reading,
+    correct: Correction,
+    store: &[u64],
+    main: &mut [u8],
+    local: &mut [u8],
+    state: &mut State,
+) -> Answer {
+    let turn = checked_word(reading, store, main, local, state)
+        .and_then(|word| steps(reading, correct, &word, &mut Storage { main, local }, state));
     match turn {
         Ok(next) => {
             *state = next;
@@ -88,7 +96,7 @@ fn refused(number: Refusal) -> Answer {
 }
 
 /// The word at WX, past 1, 2, 3 to 9, the stop and 10.
-fn checked_word(store: &[u64], main: &[u8], local: &[u8], state: &State) -> Result<Word, Answer> {
+fn checked_word(reading: Reading, store: &[u64], main: &[u8], local: &[u8], state: &State) -> Result<Word, Answer> {
     if !sizes_fit(store, main, local) {
         return Err(refused(1));
     }
@@ -101,7 +109,7 @@ fn checked_word(store: &[u64], main: &[u8], local: &[u8], state: &State) -> Resu
     if word[CF] == STOP {
         return Err(Answer::Stopped);
     }
-    match not_modelled(&word) {
+    match not_modelled(reading, &word) {
         0 => Ok(word),
         field => Err(Answer::Refused { number: 10, field }),
     }
@@ -119,7 +127,13 @@ fn after_arrival(word: &Word, state: &State) -> State {
 }
 
 /// Steps a to e: the state after them, or refusal 11 with storage as it was.
-fn steps(correct: Correction, word: &Word, storage: &mut Storage, state: &State) -> Result<State, Answer> {
+fn steps(
+    reading: Reading,
+    correct: Correction,
+    word: &Word,
+    storage: &mut Storage,
+    state: &State,
+) -> Result<State, Answer> {
     let now = after_arrival(word, state);
     let sum = arithmetic(correct, word, &now);
     let adder::Answer { ac, bc1, z0, digit_carry, invalid, .. } = sum;
@@ -130,13 +144,13 @@ fn steps(correct: Correction, word: &Word, storage: &mut Storage, state: &State)
     if let Some(put) = DESTINATION[usize::from(word[CD])] {
         put(&mut next, sum.result);
     }
-    if let Some(change) = STATUS[usize::from(word[CS])] {
+    if let Some(change) = STATUS[usize::from(word[CS])].under(reading) {
         next.registers[S] = change(next.registers[S], sum.result);
     }
     if adder::saves_carry(word[CC]) {
         next.registers[S] = with_bit(next.registers[S], 3, sum.ac);
     }
-    next.wx = next_address(word, &now);
+    next.wx = next_address(reading, word, &now);
     // "The return word closes the trap."
     next.owed &= !returns(word);
     Ok(next)
@@ -159,6 +173,7 @@ fn controls(word: &Word, now: &State) -> Controls {
 }
 
 /// The work of the word that would run next; none where WX is not in the store, the word is refused by 3 to 9, or it stops.
+/// No reading changes it.
 pub fn next_work(store: &[u64], state: &State) -> Option<Work> {
     let bits = *store.get(usize::from(state.wx))?;
     // In a longer store than a cycle takes, an address over 4,095 is refused before the word is looked at.

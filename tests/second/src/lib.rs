@@ -1,9 +1,10 @@
 //! A second Model 30 engine, written from document 01 alone, for the proved one to be compared with; `signed` is written
 //! from request 2 of document 02 alone, `apsp` from request 3 and the paper of its words, the two lamps of a sum from
-//! request 5, and `trap` with the return from request 10.
+//! request 5, `reading` with the codes that a reading tells apart from request 7, and `trap` with the return from request 10.
 //!
 //! One file for each section of the paper. Behaviour sits in tables of functions indexed by a field's
-//! code; a code with no entry is a code that is not modelled, so refusal 10 reads the same tables.
+//! code; a code with no entry is a code that is not modelled, so refusal 10 reads the same tables. Where readings differ a
+//! table still stands once: its entries say what a code means under each.
 
 pub mod adder;
 pub mod agree;
@@ -17,6 +18,7 @@ pub mod deck;
 pub mod lister;
 pub mod panel;
 pub mod random;
+pub mod reading;
 pub mod registers;
 pub mod run;
 pub mod shipped;

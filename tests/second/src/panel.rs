@@ -3,6 +3,7 @@
 use crate::adder::Work;
 use crate::cycle::{cycle, next_work, Answer};
 use crate::decimal::{add_decimal, Outcome};
+use crate::reading::Reading;
 use crate::run::{run, Ending};
 use crate::shipped::{self, run_shipped, APSP, SHIPPED};
 use crate::state::State;
@@ -65,11 +66,19 @@ fn save(state: &State, record: &mut [u8]) {
     record[..STATE].copy_from_slice(&state.to_bytes());
 }
 
-pub fn one_cycle(store: &[u64], main: &mut [u8], local: &mut [u8], record: &mut [u8]) -> u64 {
+/// enum panel_reading: "any other value than 0 is compatibility".
+fn reading_by(code: u8) -> Reading {
+    match code {
+        0 => Reading::Basic,
+        _ => Reading::Compatibility,
+    }
+}
+
+pub fn one_cycle(reading: u8, store: &[u64], main: &mut [u8], local: &mut [u8], record: &mut [u8]) -> u64 {
     let Some(mut state) = loaded(record) else {
         return coded(REFUSED, 19, 0);
     };
-    match cycle(store, main, local, &mut state) {
+    match cycle(reading_by(reading), store, main, local, &mut state) {
         Answer::Ran => {
             save(&state, record);
             coded(RAN, 0, 0)
@@ -79,11 +88,11 @@ pub fn one_cycle(store: &[u64], main: &mut [u8], local: &mut [u8], record: &mut 
     }
 }
 
-pub fn run_for(store: &[u64], main: &mut [u8], local: &mut [u8], record: &mut [u8], budget: u32) -> u64 {
+pub fn run_for(reading: u8, store: &[u64], main: &mut [u8], local: &mut [u8], record: &mut [u8], budget: u32) -> u64 {
     let Some(mut state) = loaded(record) else {
         return coded(REFUSED, 19, 0);
     };
-    let (ending, count) = run(store, main, local, &mut state, u64::from(budget));
+    let (ending, count) = run(reading_by(reading), store, main, local, &mut state, u64::from(budget));
     // "a cycle that ran writes 0 or 1": where none ran, the record is as it was lent
     if count > 0 {
         save(&state, record);

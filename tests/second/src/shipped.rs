@@ -3,6 +3,7 @@
 use crate::apsp;
 use crate::bits::{bit, with_bit};
 use crate::decimal::Outcome;
+use crate::reading::Reading;
 use crate::run::{run, Ending};
 use crate::state::{State, I, J, L, S, U, V};
 
@@ -141,10 +142,11 @@ pub fn bound(start: &State) -> u64 {
     40 * u64::from(start.registers[L]) + 40
 }
 
-/// The word that a run within the bound stops at, S3 there, and its count of cycles.
+/// The word that a run within the bound stops at, S3 there, and its count of cycles. "The shipped programs are run under
+/// basic."
 fn stopped(words: &[u64], main: &mut [u8], local: &mut [u8], start: State) -> (u16, bool, u64) {
     let mut state = start;
-    let (ending, count) = run(words, main, local, &mut state, bound(&start));
+    let (ending, count) = run(Reading::Basic, words, main, local, &mut state, bound(&start));
     assert_eq!(ending, Ending::Stopped);
     (state.wx, bit(state.registers[S], 3), count)
 }

@@ -4,11 +4,12 @@
 mod common;
 
 use common::{
-    are_alike, bench_of, draw_budgets, each_occurs, lent_to_go_on, of_cases, one_of, running_word, storage_as_found,
-    Bench, Kind,
+    are_alike, bench_of, draw_budgets, each_occurs, in_either, lent_to_go_on, of_cases, one_of, running_word,
+    storage_as_found, Bench, Kind,
 };
 use second::cycle::Answer;
 use second::random::Random;
+use second::reading::Reading;
 use second::run::{Ending, MOST_BUDGET};
 use second::state::{State, J, M, N, R};
 use second::word::{split, CM};
@@ -44,8 +45,9 @@ fn fits([store, main, local]: [usize; 3]) -> bool {
 
 // ---- a run in two parts
 
-/// Two runs, the second from where the first ended.
+/// Two runs under one reading, the second from where the first ended.
 struct Division {
+    reading: Reading,
     sizes: [usize; 3],
     budgets: [u64; 2],
     ran: [Ran; 2],
@@ -64,7 +66,11 @@ fn divided(bench: &Bench, budgets: [u64; 2]) -> Division {
     } else if first.0 != Ending::Spent && budgets[1] > 0 {
         assert_eq!(second, (first.0, 0), "the second run meets the word that ended the first");
     }
-    Division { sizes: sizes(bench), budgets, ran }
+    Division { reading: bench.reading, sizes: sizes(bench), budgets, ran }
+}
+
+fn both_run_long(case: &Division) -> bool {
+    case.ran.iter().all(|(_, count)| *count > 99)
 }
 
 /// The first run is spent just where the second has no cycle more.
@@ -72,7 +78,7 @@ fn is_cut_before_the_end(case: &Division) -> bool {
     case.ran[0].0 == Ending::Spent && case.ran[0].1 > 0 && case.ran[1].0 != Ending::Spent && case.ran[1].1 == 0
 }
 
-const DIVISIONS: [Kind<Division>; 21] = [
+const DIVISIONS: [Kind<Division>; 22] = [
     ("the first is spent", |case| case.ran[0].0 == Ending::Spent),
     ("the first stops at once", |case| case.ran[0] == (Ending::Stopped, 0)),
     ("the first stops later", |case| case.ran[0].0 == Ending::Stopped && case.ran[0].1 > 0),
@@ -83,7 +89,6 @@ const DIVISIONS: [Kind<Division>; 21] = [
     ("the first is of 0", |case| case.budgets[0] == 0 && case.ran[1].1 > 0),
     ("the second is of 0", |case| case.budgets[1] == 0 && case.ran[0].1 > 0),
     ("both are of 0", |case| case.budgets == [0, 0]),
-    ("both run long", |case| case.ran[0].1 > 99 && case.ran[1].1 > 99),
     ("cut just before a stop", |case| is_cut_before_the_end(case) && case.ran[1].0 == Ending::Stopped),
     ("cut just before a refusal", |case| is_cut_before_the_end(case) && is_refused_at_once(case.ran[1])),
     ("the second stops later", |case| case.ran[1].0 == Ending::Stopped && case.ran[1].1 > 0),
@@ -94,11 +99,16 @@ const DIVISIONS: [Kind<Division>; 21] = [
     ("main storage over the limit", |case| case.sizes[1] == 65_537),
     ("local storage one short", |case| case.sizes[2] == 255),
     ("local storage one over", |case| case.sizes[2] == 257),
+    ("both run long in basic", |case| both_run_long(case) && case.reading == Reading::Basic),
+    ("both run long in compatibility", |case| both_run_long(case) && case.reading == Reading::Compatibility),
 ];
 
 #[test]
 fn budgets_may_be_divided() {
-    let seen = of_cases(15, 2000, |random, bench| [0; 4].map(|_| divided(&bench, draw_budgets(random).map(u64::from))));
+    let seen = of_cases(16, 2000, |random, case| {
+        let bench = in_either(random, case);
+        [0; 4].map(|_| divided(&bench, draw_budgets(random).map(u64::from)))
+    });
     each_occurs(&DIVISIONS, &seen);
     let numbers: BTreeSet<u8> = seen.iter().filter_map(|case| refused_later(case.ran[0])).collect();
     // 8 is drawn too seldom to be asked for.
@@ -182,7 +192,10 @@ const RUNS: [Kind<Ran>; 7] = [
 
 #[test]
 fn single_cycles_are_a_run() {
-    let seen = of_cases(17, 2000, |random, bench| [2, 40].map(|most| pressed(&bench, random.below(most))));
+    let seen = of_cases(17, 2000, |random, case| {
+        let bench = in_either(random, case);
+        [2, 40].map(|most| pressed(&bench, random.below(most)))
+    });
     each_occurs(&RUNS, &seen);
 }
 
@@ -243,7 +256,8 @@ const QUIET: [Kind<Quiet>; 11] = [
 #[test]
 fn a_quiet_store_leaves_storage_as_found() {
     let seen = of_cases(19, 1500, |random, case| {
-        let bench = quieted(random, case);
+        let quiet = quieted(random, case);
+        let bench = in_either(random, quiet);
         [0, 1, 4, 40, 400, MOST_BUDGET + 1].map(|budget| ran_quietly(&bench, budget))
     });
     each_occurs(&QUIET, &seen);

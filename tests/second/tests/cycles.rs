@@ -2,31 +2,33 @@
 
 mod common;
 
-use common::{draw_bench, draw_bytes, draw_fields, draw_state, Bench};
+use common::{draw_bench, draw_bytes, draw_fields, draw_state, in_either, missing, Bench};
 use second::cycle::{cycle_by_table, not_modelled, Answer};
 use second::random::Random;
+use second::reading::{Reading, READINGS};
 use second::run::Ending;
 use second::state::{D, G, H, I, J, L, M, N, R, S, T, U, V};
 use second::word::{index_of, pack, split, Fields, CC, CD, CL, CM, CS, CU};
 
-/// The field numbers of 10, written out from the paper's lists and not from the tables.
-fn expected_field(fields: &Fields) -> u8 {
+/// The field numbers of 10, written out from the papers' lists and not from the tables.
+fn expected_field(reading: Reading, fields: &Fields) -> u8 {
     let of = |name: &str| fields[index_of(name)];
+    let [ch, cl, cs] = missing(reading);
     let cu_bad = match of("CM") {
         0..=2 => of("CU") == 1,
         3..=5 => of("CU") == 2,
         _ => false,
     };
     let bad = [
-        (4, [4, 5].contains(&of("CH"))),
-        (5, [3, 4, 12, 15].contains(&of("CL"))),
+        (4, ch.contains(&of("CH"))),
+        (5, cl.contains(&of("CL"))),
         (6, of("CM") >= 6),
         (7, cu_bad),
         (8, of("CL") != 2 && [0, 1, 2, 3, 6].contains(&of("CA"))),
         (9, of("AA") == 1),
         (12, of("AK") == 1),
         (15, (1..=4).contains(&of("CD"))),
-        (20, [5, 14, 15].contains(&of("CS"))),
+        (20, cs.contains(&of("CS"))),
         (21, of("AS") == 1),
     ];
     bad.iter().find(|(_, given)| *given).map_or(0, |(number, _)| *number)
@@ -35,8 +37,8 @@ fn expected_field(fields: &Fields) -> u8 {
 #[test]
 fn ten_names_the_first_field_in_word_order() {
     let mut random = Random::new(10);
-    let mut seen = [0; 22];
-    for _ in 0..60_000 {
+    let mut seen = [[0; 22]; 2];
+    for reading in READINGS.repeat(60_000) {
         let mut fields = draw_fields(&mut random);
         // Mostly plain fields, so that the later ones are reached.
         for name in ["CH", "CL", "CM", "CU", "CA", "AA", "AK", "CD", "CS", "AS"] {
@@ -53,10 +55,10 @@ fn ten_names_the_first_field_in_word_order() {
                 continue;
             }
         };
-        let expected = expected_field(&fields);
-        assert_eq!(not_modelled(&split(word)), expected);
-        seen[usize::from(expected)] += 1;
-        let mut bench = Bench::new(1);
+        let expected = expected_field(reading, &fields);
+        assert_eq!(not_modelled(reading, &split(word)), expected);
+        seen[reading as usize][usize::from(expected)] += 1;
+        let mut bench = Bench { reading, ..Bench::new(1) };
         bench.store[0] = word;
         match (fields[index_of("CF")], expected) {
             (4, _) => bench.answers(Answer::Stopped),
@@ -64,8 +66,10 @@ fn ten_names_the_first_field_in_word_order() {
             (_, field) => bench.answers(Answer::Refused { number: 10, field }),
         }
     }
-    let named: Vec<usize> = (0..22).filter(|&field| seen[field] > 50).collect();
-    assert_eq!(named, [0, 4, 5, 6, 7, 8, 9, 12, 15, 20, 21]);
+    for seen in seen {
+        let named: Vec<usize> = (0..22).filter(|&field| seen[field] > 50).collect();
+        assert_eq!(named, [0, 4, 5, 6, 7, 8, 9, 12, 15, 20, 21]);
+    }
 }
 
 #[test]
@@ -77,7 +81,9 @@ fn every_code_of_each_field_alone() {
             fields[index_of(name)] = code;
             let fields = second::word::with_right_pk(fields);
             let word = split(pack(&fields, 0).unwrap());
-            assert_eq!(not_modelled(&word), expected_field(&fields), "{name} {code}");
+            for reading in READINGS {
+                assert_eq!(not_modelled(reading, &word), expected_field(reading, &fields), "{name} {code}");
+            }
         }
     }
 }
@@ -99,7 +105,8 @@ fn what_a_cycle_leaves_alone() {
     let mut random = Random::new(30);
     let (mut ran, mut stopped, mut refused) = (0, 0, 0);
     for _ in 0..40 {
-        let mut bench = draw_bench(&mut random, 256);
+        let drawn = draw_bench(&mut random, 256);
+        let mut bench = in_either(&mut random, drawn);
         for _ in 0..500 {
             bench.state = draw_state(&mut random, 256);
             let before = bench.clone();
@@ -162,11 +169,13 @@ fn check_frame(word: &second::word::Word, before: &Bench, after: &Bench) {
 fn the_cycle_by_table_is_the_cycle_by_rule() {
     let mut random = Random::new(31);
     for _ in 0..40 {
-        let mut bench = draw_bench(&mut random, 256);
+        let drawn = draw_bench(&mut random, 256);
+        let mut bench = in_either(&mut random, drawn);
         for _ in 0..500 {
             bench.state = draw_state(&mut random, 256);
             let mut other = bench.clone();
-            let by_table = cycle_by_table(&other.store, &mut other.main, &mut other.local, &mut other.state);
+            let by_table =
+                cycle_by_table(other.reading, &other.store, &mut other.main, &mut other.local, &mut other.state);
             assert_eq!(bench.cycle(), by_table);
             assert_eq!(bench, other);
         }
@@ -338,7 +347,8 @@ fn a_run_is_so_many_cycles() {
     let mut random = Random::new(14);
     let mut endings = [0; 3];
     for _ in 0..400 {
-        let mut single = draw_bench(&mut random, 512);
+        let drawn = draw_bench(&mut random, 512);
+        let mut single = in_either(&mut random, drawn);
         let mut whole = single.clone();
         let budget = random.below(40);
         let (ending, count) = whole.run(budget);

@@ -3,9 +3,10 @@
 
 mod common;
 
-use common::{are_alike, draw_state, each_occurs, of_cases, Bench, Kind};
+use common::{are_alike, draw_state, each_occurs, in_either, missing, of_cases, Bench, Kind};
 use second::adder::{add, add_by_table, Controls};
 use second::cycle::Answer;
+use second::reading::{Reading, READINGS};
 use second::run::Ending;
 use second::shipped::{start, start_apsp};
 use second::state::{State, D, G, H, I, J, L, R, S, T, U, V};
@@ -351,7 +352,8 @@ const CYCLES: [Kind<Cycle>; 25] = [
 
 #[test]
 fn lamps_after_drawn_cycles() {
-    let seen = of_cases(29, 600, |random, mut bench| {
+    let seen = of_cases(29, 600, |random, case| {
+        let mut bench = in_either(random, case);
         // One address more than the store has.
         let addresses = bench.store.len() + 1;
         [0; 40].map(|_| {
@@ -408,7 +410,8 @@ const PAIRS: [Kind<Pair>; 10] = [
 
 #[test]
 fn states_with_other_lamps_run_alike() {
-    let seen = of_cases(31, 1000, |random, bench| {
+    let seen = of_cases(31, 1000, |random, case| {
+        let bench = in_either(random, case);
         let most = [1, 2, 2, 40, 400];
         let differ = [[true, false], [false, true], [true, true]];
         most.map(|most| random.below(most)).map(|budget| differ.map(|differ| run_alike(&bench, differ, budget)))
@@ -416,22 +419,30 @@ fn states_with_other_lamps_run_alike() {
     each_occurs(&PAIRS, &seen.into_iter().flatten().collect::<Vec<_>>());
 }
 
-/// Every CH and CL that is modelled, beside every AC, 1BC and Z0.
+/// Beside every AC, 1BC and Z0.
+fn no_lamp_is_read(reading: Reading, ch: u8, cl: u8) {
+    let mut bench = Bench { reading, ..Bench::one(&[("CH", ch), ("CL", cl)]) };
+    for latches in 0..8 {
+        [bench.state.ac, bench.state.bc1, bench.state.z0] = [0, 1, 2].map(|place| latches >> place & 1 == 1);
+        let next = |[digit_carry, invalid]: Lamps| {
+            let mut bench = bench.clone();
+            bench.state = State { digit_carry, invalid, ..bench.state };
+            bench.steps(1);
+            bench.state.wx
+        };
+        let nexts = [[false, false], [false, true], [true, false], [true, true]].map(next);
+        assert_eq!(nexts, [nexts[0]; 4], "{reading:?} CH {ch} CL {cl}");
+    }
+}
+
+/// Every CH and CL that is modelled under a reading.
 #[test]
 fn no_branch_reads_the_lamps() {
-    let codes = (0..16).flat_map(|ch| (0..16).map(move |cl| (ch, cl)));
-    for (ch, cl) in codes.filter(|(ch, cl)| ![4, 5].contains(ch) && ![3, 4, 12, 15].contains(cl)) {
-        let mut bench = Bench::one(&[("CH", ch), ("CL", cl)]);
-        for latches in 0..8 {
-            [bench.state.ac, bench.state.bc1, bench.state.z0] = [0, 1, 2].map(|place| latches >> place & 1 == 1);
-            let next = |[digit_carry, invalid]: Lamps| {
-                let mut bench = bench.clone();
-                bench.state = State { digit_carry, invalid, ..bench.state };
-                bench.steps(1);
-                bench.state.wx
-            };
-            let nexts = [[false, false], [false, true], [true, false], [true, true]].map(next);
-            assert_eq!(nexts, [nexts[0]; 4], "CH {ch} CL {cl}");
+    for reading in READINGS {
+        let [no_ch, no_cl, _] = missing(reading);
+        let codes = (0..16).flat_map(|ch| (0..16).map(move |cl| (ch, cl)));
+        for (ch, cl) in codes.filter(|(ch, cl)| !no_ch.contains(ch) && !no_cl.contains(cl)) {
+            no_lamp_is_read(reading, ch, cl);
         }
     }
 }

@@ -2,6 +2,7 @@
 //! that they show, lamp by lamp, are those of this engine's own run.
 
 use second::cycle::{cycle, next_work, Answer};
+use second::reading::Reading;
 use second::shipped::{start, start_apsp, APSP, SHIPPED};
 use second::state::State;
 use second::word::{take_apart, GIVEN, LAYOUT};
@@ -106,7 +107,7 @@ fn run_is(table: &[Vec<String>], store: &[u64], main: &mut [u8], from: State) ->
         let [cycle_number, word, lamps, ac, z0, next] = &cells[..] else { panic!("{cells:?}") };
         assert_eq!((cycle_number.parse(), hexadecimal(word)), (Ok(number), state.wx.into()));
         let (before, work) = (state, next_work(store, &state).expect("a sum"));
-        assert_eq!(cycle(store, main, &mut local, &mut state), Answer::Ran);
+        assert_eq!(cycle(Reading::Basic, store, main, &mut local, &mut state), Answer::Ran);
         let lamps = match lamps.split_once("**; ") {
             Some((sum, rest)) => {
                 let (a, b, carry) = (work.a_gated, work.b_entering, u8::from(work.carry_in));
@@ -123,7 +124,7 @@ fn run_is(table: &[Vec<String>], store: &[u64], main: &mut [u8], from: State) ->
     }
     let [dash, word, _, _, _, none] = &table[table.len() - 1][..] else { panic!("no stop") };
     assert_eq!((dash.as_str(), hexadecimal(word), none.as_str()), ("–", state.wx.into(), "–"));
-    assert_eq!(cycle(store, main, &mut local, &mut state), Answer::Stopped);
+    assert_eq!(cycle(Reading::Basic, store, main, &mut local, &mut state), Answer::Stopped);
     sums
 }
 

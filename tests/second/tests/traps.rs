@@ -4,13 +4,14 @@
 mod common;
 
 use common::{
-    are_alike, draw_bench, draw_modelled, draw_state, each_occurs, of_cases, one_of, running_word, Bench, Codes, Kind,
-    STOP,
+    are_alike, draw_bench, draw_modelled, draw_state, each_occurs, in_either, missing, of_cases, one_of, running_word,
+    Bench, Codes, Kind, STOP,
 };
 use second::cycle::{next_work, not_modelled, Answer};
 use second::deck::{block_check, read_deck, write_deck};
 use second::panel;
 use second::random::Random;
+use second::reading::{Reading, READINGS};
 use second::run::Ending;
 use second::shipped::{start, start_apsp};
 use second::state::{State, D, H, M, N, R, S, U, V};
@@ -302,8 +303,8 @@ fn with_codes(mut fields: Fields, codes: Codes) -> Fields {
 }
 
 /// A return word beside the same word under CU 0, from one drawn state: all but WX and the latch is alike. Gives the answer.
-fn beside_cu_0(random: &mut Random, [cm, ch, cl]: [u8; 3], owed: bool) -> Answer {
-    let mut bench = draw_bench(random, 256);
+fn beside_cu_0(reading: Reading, random: &mut Random, [cm, ch, cl]: [u8; 3], owed: bool) -> Answer {
+    let mut bench = Bench { reading, ..draw_bench(random, 256) };
     let (at, fwx) = (bench.state.wx, one_of(random, &[0, 7, 0x0FF, 0xFFF, 0x1000, 0xFFFF]));
     bench.state = State { fwx, owed, ..bench.state };
     let fields = draw_modelled(random);
@@ -324,21 +325,22 @@ fn beside_cu_0(random: &mut Random, [cm, ch, cl]: [u8; 3], owed: bool) -> Answer
     answer
 }
 
-/// Every CM, CH and CL but the module number's, owed or not. Codes that are not modelled are named as they are beside CU 0.
+/// Every CM, CH and CL but the module number's, owed or not, under either reading. Codes that are not modelled are named as
+/// they are beside CU 0.
 #[test]
 fn a_return_word_is_the_same_word_but_for_its_address() {
     let random = &mut Random::new(14);
     let codes = (0..3).flat_map(|cm| (0..16).flat_map(move |ch| (0..16).map(move |cl| [cm, ch, cl])));
     let mut answers = Vec::new();
-    for codes in codes.filter(|[_, _, cl]| *cl != 2) {
+    for (reading, codes) in codes.filter(|[_, _, cl]| *cl != 2).flat_map(|codes| READINGS.map(|read| (read, codes))) {
         let mut ran = false;
         for owed in [false, true].repeat(4) {
-            let answer = beside_cu_0(random, codes, owed);
+            let answer = beside_cu_0(reading, random, codes, owed);
             ran |= answer == Answer::Ran;
             answers.push(answer);
         }
-        let [_, ch, cl] = codes;
-        assert_eq!(ran, ![4, 5].contains(&ch) && ![3, 4, 12, 15].contains(&cl), "{codes:?}");
+        let ([_, ch, cl], [no_ch, no_cl, _]) = (codes, missing(reading));
+        assert_eq!(ran, !no_ch.contains(&ch) && !no_cl.contains(&cl), "{reading:?} {codes:?}");
     }
     let refused_by_11 = |answer: &&Answer| matches!(answer, Answer::Refused { number: 11, .. });
     assert!(answers.iter().filter(refused_by_11).count() > 20);
@@ -440,11 +442,13 @@ fn ten_names_cu_1_and_not_the_return() {
             (6..=7, _) => 6,
             _ => 0,
         };
-        let mut bench = Bench::one(&[("CM", cm), ("CU", cu)]);
-        assert_eq!(not_modelled(&split(bench.store[0])), expected, "CM {cm} CU {cu}");
-        match expected {
-            0 => bench.steps(1),
-            field => bench.answers(Answer::Refused { number: 10, field }),
+        for reading in READINGS {
+            let mut bench = Bench { reading, ..Bench::one(&[("CM", cm), ("CU", cu)]) };
+            assert_eq!(not_modelled(reading, &split(bench.store[0])), expected, "CM {cm} CU {cu}");
+            match expected {
+                0 => bench.steps(1),
+                field => bench.answers(Answer::Refused { number: 10, field }),
+            }
         }
     }
 }
@@ -497,7 +501,8 @@ const KEPT: [Kind<Kept>; 7] = [
 #[test]
 fn only_a_return_closes_a_trap_and_reads_fwx() {
     let seen = of_cases(33, 600, |random, case| {
-        let bench = without_returns(random, case);
+        let plain = without_returns(random, case);
+        let bench = in_either(random, plain);
         [1, 40, 400].map(|budget| ran_keeping(random, &bench, budget))
     });
     each_occurs(&KEPT, &seen);
@@ -506,7 +511,8 @@ fn only_a_return_closes_a_trap_and_reads_fwx() {
 /// Cycle by cycle, of any words: FWX stays through all, and the latch goes off by a return that ran and by nothing else.
 #[test]
 fn a_drawn_run_closes_its_trap_at_the_first_return() {
-    let seen = of_cases(35, 400, |_, mut bench| {
+    let seen = of_cases(35, 400, |random, case| {
+        let mut bench = in_either(random, case);
         bench.state.owed = true;
         let (mut closed, fwx) = (0, bench.state.fwx);
         for _ in 0..60 {
@@ -593,7 +599,8 @@ fn what_a_routine_changes_stays_changed() {
 /// Traps wherever a drawn run has come to, open or closed.
 #[test]
 fn drawn_runs_broken_into() {
-    let ended = of_cases(37, 400, |random, mut bench| {
+    let ended = of_cases(37, 400, |random, case| {
+        let mut bench = in_either(random, case);
         for _ in 0..12 {
             let address = one_of(random, &[0, 1, 2, 40, 255, 4095, 4096, u32::MAX]);
             let (before, answer) = (bench.clone(), trap(&mut bench.state, address));

@@ -6,10 +6,10 @@ use Rattle.agree_run.proofs.runs.Statement.{statement}
 use Rattle.agree_run.proofs.runs.Tie as tie
 
 abbrev Inv-loop : tie.InvT-loop
-Inv-loop store₀ main₀ local₀ counts₀ g₀ k₀ t9 store main local counts g k = (k ≤ 1000) × (length store ≡ length store₀) × (length main ≡ length main₀) × (length local ≡ length local₀) × (length counts ≡ length counts₀)
+Inv-loop store₀ main₀ local₀ counts₀ g₀ k₀ store main local counts g k = (k ≤ 1000) × (length store ≡ length store₀) × (length main ≡ length main₀) × (length local ≡ length local₀) × (length counts ≡ length counts₀)
 
 abbrev μ-loop : tie.MeasureT-loop
-μ-loop store₀ main₀ local₀ counts₀ g₀ k₀ t9 store main local counts g k = 1000 - k
+μ-loop store₀ main₀ local₀ counts₀ g₀ k₀ store main local counts g k = 1000 - k
 
 pub runs-spec : {M : Type 1} → statement M
 runs-spec =
@@ -26,8 +26,6 @@ runs-spec =
     (λ c. search needs)
     (λ c. search needs)
     (λ c. search needs)
-    (λ c. search needs)
-    (λ c κs. tt)
     (λ c. search needs)
     (λ c κs. tt)
     (λ c. search needs)

@@ -5,6 +5,7 @@ use denote.Ref.{now}
 use lib.ListN.{length}
 use Rattle.digits.specs.Refusal.{first}
 use Rattle.machine.specs.Cycle.{Outcome}
+use Rattle.codes.specs.declared.Reading.the-variants.{Basic}
 use Rattle.run.specs.Run.{runOf}
 use Rattle.run.specs.declared.Finished.{Finished}
 use Rattle.machine.specs.declared.State.{State}
@@ -17,7 +18,7 @@ use Rattle.decimal.proofs.entry.Tie as tie
 
 -- the run from a state
 abbrev its-run : tie.Start → State → Outcome Finished
-its-run c s = let a = c .args in runOf (bound (a .length)) (now (a .store)) (now (a .main)) (now (a .local)) s
+its-run c s = let a = c .args in runOf (bound (a .length)) Basic (now (a .store)) (now (a .main)) (now (a .local)) s
 
 abbrev its-start : tie.Start → State
 its-start c = let a = c .args in startWith (a .first) (a .second) (a .length) (a .status)

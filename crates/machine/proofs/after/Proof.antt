@@ -23,7 +23,7 @@ returns c =
     let j = u .before in
     let i = j .before in
     let a = i .before .args in
-    let s = status .status .ensures ∙ ap (statusOf (a .f) (a .z)) (into9 .into9 .ensures) in
+    let s = status .status .ensures ∙ ap (statusOf (a .reading) (a .f) (a .z)) (into9 .into9 .ensures) in
     λ k. record {
       i = i .into .ensures k;
       j = j .into2 .ensures k;

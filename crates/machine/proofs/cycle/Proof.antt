@@ -15,12 +15,12 @@ use Rattle.machine.proofs.cycle.Tie as tie
 returns : tie.Need-returns
 returns c =
     let a = c .before .before .before .before .before .args in
-    sym (on-1 (now (a .store)) (now (a .main)) (now (a .local)) (a .state) (sym (c .before .sizes-wrong .ensures) ∙ c .if1 .taken))
+    sym (on-1 (a .reading) (now (a .store)) (now (a .main)) (now (a .local)) (a .state) (sym (c .before .sizes-wrong .ensures) ∙ c .if1 .taken))
 
 returns-2 : tie.Need-returns-2
 returns-2 c =
     let a = c .before .before .before .before .before .before .before .args in
-    sym (on-2 (now (a .store)) (now (a .main)) (now (a .local)) (a .state) (sym (c .before .before .before .sizes-wrong .ensures) ∙ c .before .before .if1 .left) (le-leb _ _ (c .if2 .taken)))
+    sym (on-2 (a .reading) (now (a .store)) (now (a .main)) (now (a .local)) (a .state) (sym (c .before .before .before .sizes-wrong .ensures) ∙ c .before .before .if1 .left) (le-leb _ _ (c .if2 .taken)))
 
 returns-3 : tie.Need-returns-3
 returns-3 c =
@@ -29,7 +29,7 @@ returns-3 c =
     let sizes = sym (c .before .before .before .before .before .before .before .sizes-wrong .ensures) ∙ c .before .before .before .before .before .before .if1 .left in
     let inside = lt-leb _ _ (c .before .before .before .before .if2 .left) in
     ap (λ (n : ℕ). outcome (Refused (a .state) n 0) (now (a .main)) (now (a .local))) is
-    ∙ sym (on-fault (now (a .store)) (now (a .main)) (now (a .local)) (a .state) sizes inside (λ z. c .if3 .taken (is ∙ z)))
+    ∙ sym (on-fault (a .reading) (now (a .store)) (now (a .main)) (now (a .local)) (a .state) sizes inside (λ z. c .if3 .taken (is ∙ z)))
 
 step-requires : tie.Need-step-requires
 step-requires c κs =
@@ -44,8 +44,8 @@ returns-4 c =
     let sizes = sym (c .before .before .before .before .before .before .before .before .before .before .before .before .before .before .before .sizes-wrong .ensures) ∙ c .before .before .before .before .before .before .before .before .before .before .before .before .before .before .if1 .left in
     let inside = lt-leb _ _ (c .before .before .before .before .before .before .before .before .before .before .before .before .if2 .left) in
     c .before .before .before .before .step .ensures
-    ∙ ap (λ (f : Fields). stepOf f (now (a .main)) (now (a .local)) (a .state)) (c .before .before .before .before .before .before .before .fields-of .ensures)
-    ∙ sym (on-fields (now (a .store)) (now (a .main)) (now (a .local)) (a .state) sizes inside (sym (c .before .before .before .before .before .before .before .before .before .fault .ensures) ∙ c .before .before .before .before .before .before .before .before .if3 .left))
+    ∙ ap (λ (f : Fields). stepOf (a .reading) f (now (a .main)) (now (a .local)) (a .state)) (c .before .before .before .before .before .before .before .fields-of .ensures)
+    ∙ sym (on-fields (a .reading) (now (a .store)) (now (a .main)) (now (a .local)) (a .state) sizes inside (sym (c .before .before .before .before .before .before .before .before .before .fault .ensures) ∙ c .before .before .before .before .before .before .before .before .if3 .left))
 
 pub cycle-spec : {M : Type 1} → statement M
 cycle-spec =

@@ -2,7 +2,7 @@
 use mathlib.Core.Path.{ap, _∙_}
 use borrow.Author.Needs.{needs}
 use denote.Ref.{now}
-use Rattle.machine.specs.Cycle.{outcome}
+use Rattle.machine.specs.Cycle.{outcome, cycleOf}
 use Rattle.run.specs.declared.Finished.{Finished}
 use Rattle.run.proofs.Runs.{refused-at-once, begins}
 use Rattle.run.proofs.run.Statement.{statement}
@@ -13,7 +13,7 @@ returns c =
     let asked = c .before .before in
     let a = asked .before .before .before .before .args in
     ap (λ (f : Finished). outcome f (now (a .main)) (now (a .local))) (c .ended .ensures)
-    ∙ refused-at-once (a .budget) (now (a .store)) (now (a .main)) (now (a .local)) (a .state) _ (asked .refusal .ensures) (c .before .if1 .taken)
+    ∙ refused-at-once (cycleOf (a .reading) (now (a .store))) (a .budget) (now (a .store)) (now (a .main)) (now (a .local)) (a .state) _ (asked .refusal .ensures) (c .before .if1 .taken)
 
 returns-2 : tie.Need-returns-2
 returns-2 c =
@@ -21,7 +21,7 @@ returns-2 c =
     let passed = ran .before .before .before in
     let a = passed .before .before .before .before .before .args in
     ran .cycles .ensures
-    ∙ begins (a .budget) (now (a .store)) (now (a .main)) (now (a .local)) (a .state) _ (passed .before .refusal .ensures) (passed .if1 .left)
+    ∙ begins (cycleOf (a .reading) (now (a .store))) (a .budget) (now (a .store)) (now (a .main)) (now (a .local)) (a .state) _ (passed .before .refusal .ensures) (passed .if1 .left)
 
 pub run-spec : {M : Type 1} → statement M
 run-spec =

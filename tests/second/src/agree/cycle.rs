@@ -1,16 +1,18 @@
 //! Single cycles, and the work that would be done in each: drawn words, states and storage sizes.
 
-use super::draw::{bits, drawn_state, near, word_for, Lent};
+use super::draw::{bits, drawn_state, near, reading_of, word_for, Lent, SEVEN};
 use super::{digest_line, drawn_bytes, joined, mix_bytes, mix_state};
 use crate::adder::Work;
 use crate::bits::both_decimal;
 use crate::cycle::{cycle, next_work, Answer};
 use crate::random::{mix, Random};
+use crate::reading::Reading;
 use crate::state::{State, M, N};
 use crate::word::{split, CC, CV, LAYOUT};
 
-/// A case: the word that stands at WX, the state, and how much of each storage is lent.
+/// A case: how the store is read, the word that stands at WX, the state, and how much of each storage is lent.
 struct Trial {
+    reading: Reading,
     word: u64,
     state: State,
     lent: Lent,
@@ -32,11 +34,12 @@ fn drawn(random: &mut Random) -> Trial {
     let [a, b, c, e, f, g] = std::array::from_fn(|_| random.next());
     let words = STORE_SIZES[usize::from(bits(f, 8, 3))];
     let main = MAIN_SIZES[usize::from(bits(f, 11, 3))];
-    let wx = drawn_wx(words, g);
+    let (reading, wx) = (reading_of(g >> 40), drawn_wx(words, g));
     let state = drawn_state(c, e, wx);
     let close = main < 65536 && bits(f, 14, 2) != 0;
     Trial {
-        word: word_for(a, b, f >> 16, u32::from(wx % 4096)),
+        reading,
+        word: word_for(reading, a, b, f >> 16, u32::from(wx % 4096)),
         state: if close { near(state) } else { state },
         lent: Lent { words, main, local: 256 }.seldom_wrong(f),
     }
@@ -52,7 +55,7 @@ struct Storages {
 fn answer(digest: u64, trial: &Trial, store: &[u64], storages: &mut Storages) -> (Answer, State, u64) {
     let (main, local) = (&mut storages.main[..trial.lent.main], &mut storages.local[..trial.lent.local]);
     let mut state = trial.state;
-    let answer = cycle(&store[..trial.lent.words], main, local, &mut state);
+    let answer = cycle(trial.reading, &store[..trial.lent.words], main, local, &mut state);
     let (number, field) = match answer {
         Answer::Ran => (RAN, 0),
         Answer::Stopped => (STOPPED, 0),
@@ -89,6 +92,13 @@ struct Counts {
     digit_carry: u32,
     invalid: u32,
     kept_out: u32,
+    /// For each of the seven codes, in basic and in compatibility.
+    seven: [[u32; 2]; 7],
+}
+
+/// A field's place in the word.
+fn place_of(name: &str) -> usize {
+    LAYOUT.iter().position(|(field, _)| *field == name).expect("a field of the word")
 }
 
 /// A decimal sum of which a digit over 9 was chosen, and none let in.
@@ -118,16 +128,26 @@ impl Counts {
         self.kept_out += u32::from(keeps_out(word, work));
     }
 
+    /// The codes in the word of a cycle that ran.
+    fn count_codes(&mut self, reading: Reading, word: u64) {
+        for ((name, code), counts) in SEVEN.into_iter().zip(&mut self.seven) {
+            counts[reading as usize] += u32::from(split(word)[place_of(name)] == code);
+        }
+    }
+
     fn report(&self) -> String {
         let mut text = format!("ran {}\nstopped {}\n", self.ran, self.stopped);
         for number in 1..12 {
             text += &format!("refused {number} {}\n", self.refused[number]);
         }
         for name in ["CH", "CL", "CM", "CU", "CA", "AA", "AK", "CD", "CS", "AS"] {
-            let place = LAYOUT.iter().position(|(field, _)| *field == name).unwrap();
-            text += &format!("{name} {}\n", self.field[place + 1]);
+            text += &format!("{name} {}\n", self.field[place_of(name) + 1]);
         }
-        text + &format!("digit carry {}\ninvalid {}\nkept out {}\n", self.digit_carry, self.invalid, self.kept_out)
+        text += &format!("digit carry {}\ninvalid {}\nkept out {}\n", self.digit_carry, self.invalid, self.kept_out);
+        for ((name, code), [basic, compatibility]) in SEVEN.iter().zip(self.seven) {
+            text += &format!("{name} {code} basic {basic}\n{name} {code} compatibility {compatibility}\n");
+        }
+        text
     }
 }
 
@@ -147,6 +167,7 @@ pub fn text() -> String {
             counts.count(answer);
             if let (Answer::Ran, Some(work)) = (answer, &work) {
                 counts.count_lamps(trial.word, work, &state);
+                counts.count_codes(trial.reading, trial.word);
             }
             digest = after;
         }

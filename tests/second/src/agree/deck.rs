@@ -1,6 +1,6 @@
 //! Decks: written, damaged in each part, read with rooms too small, exact and larger, and listed.
 
-use super::draw::{modelled, packed, word_for, PS_AND_CU, PS_AND_PK};
+use super::draw::{modelled, packed, reading_of, word_for, PS_AND_CU, PS_AND_PK};
 use super::{digest_line, drawn_bytes, mix_bytes};
 use crate::deck::{read_deck, write_deck, BLOCK, FULL};
 use crate::lister::list;
@@ -35,11 +35,11 @@ fn room_for(n: usize, most: usize, x: u64) -> usize {
 fn drawn_words(random: &mut Random, bad: u64) -> Vec<u64> {
     let mut word = |place: u64| {
         let [a, b, x] = std::array::from_fn(|_| random.next());
-        let address = (place % 4096) as u32;
+        let (reading, address) = (reading_of(b >> 40), (place % 4096) as u32);
         if place == bad {
-            word_for(a, b, (x >> 16) * 64 + 44 + (x >> 8) % 20, address)
+            word_for(reading, a, b, (x >> 16) * 64 + 44 + (x >> 8) % 20, address)
         } else {
-            packed(&modelled(a, b), address)
+            packed(&modelled(reading, a, b), address)
         }
     };
     (0..4097).map(&mut word).collect()

@@ -1,10 +1,11 @@
 //! Traps and returns: calls alone, return words beside every CM, CH and CL, and runs that traps break into.
 
-use super::draw::{bits, drawn_state, modelled, packed, BOTH_OF_CU};
+use super::draw::{bits, drawn_state, modelled, packed, reading_of, BOTH_OF_CU};
 use super::run::{store_word, RATES};
 use super::{digest_line, drawn_bytes, mix_bytes, mix_state};
 use crate::cycle::{cycle, Answer};
 use crate::random::{mix, Random};
+use crate::reading::Reading;
 use crate::run::{run, Ending};
 use crate::state::State;
 use crate::trap::trap;
@@ -121,12 +122,12 @@ fn return_word(mut fields: Fields, (cm, ch, cl, _): Place, address: u32) -> u64 
 }
 
 /// One cycle of a return word at a drawn address of the store.
-fn return_at(course: &mut Course, store: &mut [u64], place: Place, counts: &mut Counts) {
+fn return_at(reading: Reading, course: &mut Course, store: &mut [u64], place: Place, counts: &mut Counts) {
     let [a, b, c, e, f] = std::array::from_fn(|_| course.random.next());
     let wx = (f % 4096) as u16;
-    store[usize::from(wx)] = return_word(modelled(a, b), place, u32::from(wx));
+    store[usize::from(wx)] = return_word(modelled(reading, a, b), place, u32::from(wx));
     let mut state = State { owed: place.3, ..drawn_state(c, e, wx) };
-    let (number, field) = match cycle(store, &mut course.main, &mut course.local, &mut state) {
+    let (number, field) = match cycle(reading, store, &mut course.main, &mut course.local, &mut state) {
         Answer::Ran => (RAN, 0),
         Answer::Stopped => (STOPPED, 0),
         Answer::Refused { number, field } => (usize::from(number), field),
@@ -138,8 +139,10 @@ fn return_at(course: &mut Course, store: &mut [u64], place: Place, counts: &mut 
 fn return_words(course: &mut Course) -> String {
     let (mut store, mut counts, mut text) = (vec![0; 4096], Counts::new(), String::new());
     for round in 1..=8 {
+        // The first round is in basic, and they take turns.
+        let reading = reading_of(round - 1);
         for place in places() {
-            return_at(course, &mut store, place, &mut counts);
+            return_at(reading, course, &mut store, place, &mut counts);
         }
         course.mix_storages();
         text += &digest_line(round * places().count() as u64, course.digest);
@@ -168,10 +171,10 @@ impl Broken {
 }
 
 /// A run of less than 64 cycles, and then a trap.
-fn piece(course: &mut Course, store: &[u64], state: &mut State, broken: &mut Broken) {
+fn piece(reading: Reading, course: &mut Course, store: &[u64], state: &mut State, broken: &mut Broken) {
     let x = course.random.next();
     let owed = state.owed;
-    let (ending, count) = run(store, &mut course.main, &mut course.local, state, x % 64);
+    let (ending, count) = run(reading, store, &mut course.main, &mut course.local, state, x % 64);
     let (number, field) = match ending {
         Ending::Stopped => (STOPPED, 0),
         Ending::Refused { number, field } => (usize::from(number), field),
@@ -189,11 +192,11 @@ fn piece(course: &mut Course, store: &[u64], state: &mut State, broken: &mut Bro
 
 fn broken_run(course: &mut Course, broken: &mut Broken) {
     let [a, c, e] = std::array::from_fn(|_| course.random.next());
-    let rate = RATES[usize::from(bits(a, 18, 3))];
+    let (reading, rate) = (reading_of(a >> 44), RATES[usize::from(bits(a, 18, 3))]);
     let mut state = State { owed: false, ..drawn_state(c, e, u16::from(bits(a, 32, 8))) };
-    let store: Vec<u64> = (0..4096).map(|at| store_word(&mut course.random, rate, at)).collect();
+    let store: Vec<u64> = (0..4096).map(|at| store_word(reading, &mut course.random, rate, at)).collect();
     for _ in 0..6 {
-        piece(course, &store, &mut state, broken);
+        piece(reading, course, &store, &mut state, broken);
     }
     course.mix_storages();
 }

@@ -1,6 +1,6 @@
 //! Taking apart and packing: drawn words, fields and addresses, within their limits and beyond.
 
-use super::draw::{bits, packed, raw, word_for};
+use super::draw::{bits, packed, raw, reading_of, word_for};
 use super::{digest_line, joined};
 use crate::random::{mix, Random};
 use crate::word::{fault, index_of, pack, take_apart, Fields};
@@ -59,7 +59,7 @@ fn drawn_word(a: u64, b: u64, x: u64, address: u32) -> u64 {
     if x.is_multiple_of(16) {
         a
     } else {
-        word_for(a, b, x / 16, address % 4096)
+        word_for(reading_of(b >> 40), a, b, x / 16, address % 4096)
     }
 }
 

@@ -3,9 +3,10 @@
 
 use second::cycle::{cycle, not_modelled, Answer, LOCAL_BYTES, MOST_MAIN, MOST_WORDS};
 use second::random::Random;
+use second::reading::Reading;
 use second::run::{run, Ending};
 use second::state::{State, LATCHES, RECORD};
-use second::word::{build, index_of, pack, split, with_right_pk, Fields, CF, GIVEN, LAYOUT};
+use second::word::{build, index_of, pack, split, take_apart, with_right_pk, Fields, CF, GIVEN, LAYOUT};
 use std::collections::BTreeSet;
 
 pub type Codes<'a> = &'a [(&'a str, u8)];
@@ -23,6 +24,8 @@ pub struct Bench {
     pub main: Vec<u8>,
     pub local: Vec<u8>,
     pub state: State,
+    /// How the store is read: in basic, unless a test says otherwise.
+    pub reading: Reading,
 }
 
 impl Bench {
@@ -33,6 +36,7 @@ impl Bench {
             main: (0..1024usize).map(|n| (n * 7 + n / 256 + 1) as u8).collect(),
             local: (0..256usize).map(|n| (n * 5 + 0x83) as u8).collect(),
             state: State::default(),
+            reading: Reading::Basic,
         }
     }
 
@@ -81,11 +85,11 @@ impl Bench {
     }
 
     pub fn cycle(&mut self) -> Answer {
-        cycle(&self.store, &mut self.main, &mut self.local, &mut self.state)
+        cycle(self.reading, &self.store, &mut self.main, &mut self.local, &mut self.state)
     }
 
     pub fn run(&mut self, budget: u64) -> (Ending, u64) {
-        run(&self.store, &mut self.main, &mut self.local, &mut self.state, budget)
+        run(self.reading, &self.store, &mut self.main, &mut self.local, &mut self.state, budget)
     }
 
     /// So many cycles, each of which must run.
@@ -116,7 +120,7 @@ pub fn draw_fields(random: &mut Random) -> Fields {
     with_right_pk(fields)
 }
 
-/// The codes that are modelled whatever the other fields are.
+/// The codes that are modelled in basic whatever the other fields are.
 const MODELLED: [(&str, &[u8]); 10] = [
     ("CH", &[0, 1, 2, 3, 6, 7, 8, 9, 10, 11, 12, 13, 14, 15]),
     ("CL", &[0, 1, 2, 5, 6, 7, 8, 9, 10, 11, 13, 14]),
@@ -130,7 +134,7 @@ const MODELLED: [(&str, &[u8]); 10] = [
     ("AS", &[0]),
 ];
 
-/// Fields that are modelled and do not stop, but for one word in ten of any codes.
+/// Fields that are modelled in basic and do not stop, but for one word in ten of any codes.
 pub fn draw_modelled(random: &mut Random) -> Fields {
     let mut fields = draw_fields(random);
     if random.below(10) == 0 {
@@ -153,12 +157,12 @@ pub fn one_of<T: Copy>(random: &mut Random, values: &[T]) -> T {
     values[random.below(values.len() as u64) as usize]
 }
 
-/// A word of any modelled codes that does not stop.
+/// A word of any codes that are modelled in basic, which does not stop.
 pub fn running_word(random: &mut Random, address: u32) -> u64 {
     loop {
         let bits = pack(&draw_modelled(random), address).expect("fields in their widths");
         let word = split(bits);
-        if not_modelled(&word) == 0 && word[CF] != 4 {
+        if not_modelled(Reading::Basic, &word) == 0 && word[CF] != 4 {
             return bits;
         }
     }
@@ -218,7 +222,8 @@ fn draw_address(random: &mut Random, words: u64) -> u16 {
 /// A bench of which every part is drawn: a word at each address, mostly modelled.
 pub fn draw_bench(random: &mut Random, words: usize) -> Bench {
     let store = (0..words).map(|address| pack(&draw_modelled(random), address as u32).unwrap()).collect();
-    Bench { store, main: draw_bytes(random, 1024), local: draw_bytes(random, 256), state: draw_state(random, words) }
+    let (main, local, state) = (draw_bytes(random, 1024), draw_bytes(random, 256), draw_state(random, words));
+    Bench { store, main, local, state, reading: Reading::Basic }
 }
 
 /// Good words for a deck, one at each address.
@@ -297,7 +302,7 @@ pub fn lent_to_go_on(random: &mut Random) -> Lent {
 /// A record that is too short is taken as zeros: how the panel answers it is not asked here.
 pub fn bench_of(Lent { store, main, local, state }: Lent) -> Bench {
     let state = state.first_chunk().map(State::from_bytes).unwrap_or_default();
-    Bench { store, main, local, state }
+    Bench { store, main, local, state, reading: Reading::Basic }
 }
 
 /// What a run is lent, of any sizes and words, or such that it goes on.
@@ -308,6 +313,54 @@ fn draw_case(random: &mut Random) -> Bench {
         drawn.store.fill_with(|| random.next());
     }
     bench_of(drawn)
+}
+
+/// The codes that the readings tell apart: in compatibility the first is not modelled, and the others are.
+pub const SEVEN: [(&str, u8); 7] = [("CH", 3), ("CH", 8), ("CL", 4), ("CL", 6), ("CL", 12), ("CS", 5), ("CS", 15)];
+
+/// The codes of CH, of CL and of CS that are not modelled, from the papers' lists.
+pub fn missing(reading: Reading) -> [&'static [u8]; 3] {
+    match reading {
+        Reading::Basic => [&[4, 5], &[3, 4, 12, 15], &[5, 14, 15]],
+        Reading::Compatibility => [&[3, 4, 5], &[3, 15], &[14]],
+    }
+}
+
+pub fn has_code(word: u64, (name, code): (&str, u8)) -> bool {
+    split(word)[GIVEN[index_of(name)]] == code
+}
+
+/// The word with another code, its parity right. One that 3 to 9 refuse is left alone, and CL 2, beside which CA is any code.
+pub fn with_code(word: u64, address: u32, (name, code): (&str, u8)) -> u64 {
+    match take_apart(word, address) {
+        Ok(mut fields) if name != "CL" || fields[index_of("CL")] != 2 => {
+            fields[index_of(name)] = code;
+            pack(&with_right_pk(fields), address).expect("a code in its width")
+        }
+        _ => word,
+    }
+}
+
+/// The bench under compatibility, with a store for it: CH 3 gives way, and one word in three has a code that is read
+/// otherwise there.
+pub fn in_compatibility(random: &mut Random, mut bench: Bench) -> Bench {
+    for (address, word) in (0..4096).cycle().zip(&mut bench.store) {
+        if has_code(*word, SEVEN[0]) {
+            *word = with_code(*word, address, ("CH", 2));
+        }
+        if random.below(3) == 0 {
+            *word = with_code(*word, address, one_of(random, &SEVEN[1..]));
+        }
+    }
+    Bench { reading: Reading::Compatibility, ..bench }
+}
+
+/// As it is, or under compatibility.
+pub fn in_either(random: &mut Random, bench: Bench) -> Bench {
+    match random.below(2) {
+        0 => bench,
+        _ => in_compatibility(random, bench),
+    }
 }
 
 /// What is made of each of some drawn cases.

@@ -6,10 +6,10 @@ use Rattle.agree.proofs.draw.fill_store.Statement.{statement}
 use Rattle.agree.proofs.draw.fill_store.Tie as tie
 
 abbrev Inv-loop : tie.InvT-loop
-Inv-loop x rate store₀ x₀ k₀ k-end store x' k = (k ≤ k-end) × (length store ≡ k-end) × (length store ≡ length store₀)
+Inv-loop reading x rate store₀ x₀ k₀ k-end store x' k = (k ≤ k-end) × (length store ≡ k-end) × (length store ≡ length store₀)
 
 abbrev μ-loop : tie.MeasureT-loop
-μ-loop x rate store₀ x₀ k₀ k-end store x' k = k-end - k
+μ-loop reading x rate store₀ x₀ k₀ k-end store x' k = k-end - k
 
 pub fill-store-spec : {M : Type 1} → statement M
 fill-store-spec =

@@ -1,4 +1,4 @@
--- By the five forms. Assumes nothing.
+-- By the forms, the reading's last. Assumes nothing.
 use mathlib.Core.Path.{_≡_, sym, ap, _∙_}
 use mathlib.Core.Bool.{true, false}
 use native.Mathlib.Omega.{arith}
@@ -6,7 +6,7 @@ use borrow.Author.Needs.{needs}
 use lib.ListN.{length}
 use Rattle.text.specs.Ascii.{ascii}
 use Rattle.arguments.specs.Arguments.{byteForm, addressForm, limitForm, trapForm}
-use Rattle.arguments.proofs.Laws.{short-value, byte-short, address-short, limit-short, trap-short, gives-byte, gives-address, gives-from, gives-to, gives-trap, gives-none}
+use Rattle.arguments.proofs.Laws.{short-value, byte-short, address-short, limit-short, trap-short, gives-byte, gives-address, gives-from, gives-to, gives-trap, gives-reading}
 use Rattle.arguments.proofs.forms.given_of.Statement.{statement}
 use Rattle.arguments.proofs.forms.given_of.Tie as tie
 
@@ -90,8 +90,10 @@ returns-5 c =
 
 returns-6 : tie.Need-returns-6
 returns-6 c =
-    let else4 = c .before .before in
-    sym (gives-none (else4 .before .before .before .before .before .before .before .before .before .before .before .args .text .now) (no-byte (else4 .before .before .before .before .before .before .before .before)) (no-address (else4 .before .before .before .before .before .before)) (no-from (else4 .before .before .before)) (no-to else4) (no-trap c))
+    let else5 = c .before in
+    let else4 = else5 .before .before in
+    c .reading-given .ensures
+    ∙ sym (gives-reading (else4 .before .before .before .before .before .before .before .before .before .before .before .args .text .now) (no-byte (else4 .before .before .before .before .before .before .before .before)) (no-address (else4 .before .before .before .before .before .before)) (no-from (else4 .before .before .before)) (no-to else4) (no-trap else5))
 
 pub given-of-spec : {M : Type 1} → statement M
 given-of-spec =
@@ -124,4 +126,5 @@ given-of-spec =
     (λ c κs. tt)
     value-requires-6
     returns-5
+    (λ c κs. tt)
     returns-6)

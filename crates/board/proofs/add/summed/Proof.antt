@@ -2,6 +2,7 @@
 use mathlib.Core.Path.{_∙_}
 use denote.Ref.{now}
 use borrow.Author.Needs.{needs}
+use Rattle.codes.specs.declared.Reading.the-variants.{Basic}
 use Rattle.run.specs.Run.{runOf}
 use Rattle.decimal.specs.Entry.{bound, fromRun, runFor, SUMMED, addOf}
 use Rattle.apsp.specs.Entry.{signedRun, DONE, signedOf}
@@ -19,7 +20,7 @@ returns c =
     let s = given .before .before .before .before .before in
     let a = s .args in
     rw (given .operation .given .1)
-    (went .answered .ensures ∙ (λ i. fromRun SUMMED (runOf (bound (a .size)) (words .words .ensures i) (now (a .main)) (now (a .local)) (begun .start .ensures i)))
+    (went .answered .ensures ∙ (λ i. fromRun SUMMED (runOf (bound (a .size)) Basic (words .words .ensures i) (now (a .main)) (now (a .local)) (begun .start .ensures i)))
     ∙ entered SUMMED (runFor (now (a .main)) (now (a .local)) 256 512 (a .size) (given .operation .given .0 .0)) (now (a .main)) (now (a .local)) (a .size) (s .pre .0) (s .pre .1))
 
 returns-2 : tie.Need-returns-2
@@ -32,7 +33,7 @@ returns-2 c =
     let s = given .before .before .before .before .before in
     let a = s .args in
     rw (given .operation2 .given .1)
-    (went .answered2 .ensures ∙ (λ i. fromRun DONE (runOf (bound (a .size)) (words .words2 .ensures i) (now (a .main)) (now (a .local)) (begun .start2 .ensures i)))
+    (went .answered2 .ensures ∙ (λ i. fromRun DONE (runOf (bound (a .size)) Basic (words .words2 .ensures i) (now (a .main)) (now (a .local)) (begun .start2 .ensures i)))
     ∙ entered DONE (signedRun (now (a .main)) (now (a .local)) 256 512 (a .size) (given .operation2 .given .0 .0)) (now (a .main)) (now (a .local)) (a .size) (s .pre .0) (s .pre .1))
 
 pub summed-spec : {M : Type 1} → statement M

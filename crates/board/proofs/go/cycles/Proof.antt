@@ -5,7 +5,7 @@ use native.Mathlib.Nat.{sub-zero}
 use native.Mathlib.Omega.{arith}
 use borrow.Author.Needs.{needs}
 use lib.ListN.{length}
-use Rattle.machine.specs.Cycle.{outcome}
+use Rattle.machine.specs.Cycle.{outcome, cycleOf}
 use Rattle.run.specs.Run.{cyclesOf}
 use Rattle.run.specs.declared.Finished.{Finished}
 use Rattle.run.proofs.Runs.{on-spent, on-answer}
@@ -13,12 +13,12 @@ use Rattle.board.proofs.go.cycles.Statement.{statement}
 use Rattle.board.proofs.go.cycles.Tie as tie
 
 abbrev Inv-loop : tie.InvT-loop
-Inv-loop view before store main₀ local₀ budget room₀ now₀ done₀ out₀ main local room now done out =
+Inv-loop view before reading store main₀ local₀ budget room₀ now₀ done₀ out₀ main local room now done out =
     (done ≤ budget) × (length main ≡ length main₀) × (length local ≡ length local₀) × (length room ≡ length room₀)
-    × (cyclesOf (budget - done) store main local now done ≡ cyclesOf budget store main₀ local₀ now₀ done₀)
+    × (cyclesOf (budget - done) (cycleOf reading store) main local now done ≡ cyclesOf budget (cycleOf reading store) main₀ local₀ now₀ done₀)
 
 abbrev μ-loop : tie.MeasureT-loop
-μ-loop view before store main₀ local₀ budget room₀ now₀ done₀ out₀ main local room now done out = budget - done
+μ-loop view before reading store main₀ local₀ budget room₀ now₀ done₀ out₀ main local room now done out = budget - done
 
 loop-holds : tie.Need-loop-holds Inv-loop μ-loop
 loop-holds c = (search needs, refl, refl, refl, rw sub-zero)
@@ -30,8 +30,8 @@ loop-again c =
     let left = ran .before .before .before .before in
     let at = left .before .loop in (
       omega (arith, left .if1 .left),
-      ran .cycle .kept .1 .0 ∙ at .inv .1,
-      ran .cycle .kept .1 .1 .0 ∙ at .inv .2,
+      ran .cycle .kept .1 .1 .0 ∙ at .inv .1,
+      ran .cycle .kept .1 .1 .1 .0 ∙ at .inv .2,
       c .before .before .show .kept .1 .1 .1 .1 .1 .1 .0 ∙ at .inv .3,
       sym (on-answer _ _ _ _ _ _ _ _ _ _ (omega (arith, left .if1 .left)) (ran .cycle .ensures) (told .next .given .1)) ∙ at .inv .4,
     )
@@ -45,14 +45,14 @@ returns-2 : tie.Need-returns-2 Inv-loop μ-loop
 returns-2 c =
     let ran = c .before .before .before .before .before .before .before .before in
     let left = ran .before .before .before .before in
-    ap (λ (f : Finished). outcome f (ran .cycle .last .1 .0) (ran .cycle .last .1 .1 .0)) (c .ended2 .ensures)
+    ap (λ (f : Finished). outcome f (ran .cycle .last .1 .1 .0) (ran .cycle .last .1 .1 .1 .0)) (c .ended2 .ensures)
     ∙ sym (on-answer _ _ _ _ _ _ _ _ _ _ (omega (arith, left .if1 .left)) (ran .cycle .ensures) (c .before .before .last .given .1)) ∙ left .before .loop .inv .4
 
 returns-3 : tie.Need-returns-3 Inv-loop μ-loop
 returns-3 c =
     let ran = c .before .before .before .before .before .before .before .before in
     let left = ran .before .before .before .before in
-    ap (λ (f : Finished). outcome f (ran .cycle .last .1 .0) (ran .cycle .last .1 .1 .0)) (c .ended3 .ensures)
+    ap (λ (f : Finished). outcome f (ran .cycle .last .1 .1 .0) (ran .cycle .last .1 .1 .1 .0)) (c .ended3 .ensures)
     ∙ sym (on-answer _ _ _ _ _ _ _ _ _ _ (omega (arith, left .if1 .left)) (ran .cycle .ensures) (c .before .before .last2 .given .1)) ∙ left .before .loop .inv .4
 
 pub cycles-spec : {M : Type 1} → statement M
@@ -81,11 +81,11 @@ cycles-spec =
     (λ c. c .before .before .loop .inv .2)
     (λ c. c .before .before .loop .inv .3)
     returns
-    (λ c. c .before .before .before .before .before .before .before .before .cycle .kept .1 .0 ∙ c .before .before .before .before .before .before .before .before .before .before .before .before .before .loop .inv .1)
-    (λ c. c .before .before .before .before .before .before .before .before .cycle .kept .1 .1 .0 ∙ c .before .before .before .before .before .before .before .before .before .before .before .before .before .loop .inv .2)
+    (λ c. c .before .before .before .before .before .before .before .before .cycle .kept .1 .1 .0 ∙ c .before .before .before .before .before .before .before .before .before .before .before .before .before .loop .inv .1)
+    (λ c. c .before .before .before .before .before .before .before .before .cycle .kept .1 .1 .1 .0 ∙ c .before .before .before .before .before .before .before .before .before .before .before .before .before .loop .inv .2)
     (λ c. c .before .before .before .before .before .before .before .before .before .before .before .before .before .loop .inv .3)
     returns-2
-    (λ c. c .before .before .before .before .before .before .before .before .cycle .kept .1 .0 ∙ c .before .before .before .before .before .before .before .before .before .before .before .before .before .loop .inv .1)
-    (λ c. c .before .before .before .before .before .before .before .before .cycle .kept .1 .1 .0 ∙ c .before .before .before .before .before .before .before .before .before .before .before .before .before .loop .inv .2)
+    (λ c. c .before .before .before .before .before .before .before .before .cycle .kept .1 .1 .0 ∙ c .before .before .before .before .before .before .before .before .before .before .before .before .before .loop .inv .1)
+    (λ c. c .before .before .before .before .before .before .before .before .cycle .kept .1 .1 .1 .0 ∙ c .before .before .before .before .before .before .before .before .before .before .before .before .before .loop .inv .2)
     (λ c. c .before .before .before .before .before .before .before .before .before .before .before .before .before .loop .inv .3)
     returns-3)

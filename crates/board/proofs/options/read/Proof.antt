@@ -7,7 +7,7 @@ use Rattle.board.proofs.options.read.Statement.{statement}
 use Rattle.board.proofs.options.read.Tie as tie
 
 abbrev Inv-loop : tie.InvT-loop
-Inv-loop first registers count seen₀ o₀ at₀ t8 seen o at = length seen ≡ 16
+Inv-loop first registers count seen₀ o₀ at₀ t8 seen o at = length seen ≡ 17
 
 abbrev μ-loop : tie.MeasureT-loop
 μ-loop first registers count seen₀ o₀ at₀ t8 seen o at = count - at

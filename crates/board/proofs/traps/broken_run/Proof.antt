@@ -11,17 +11,17 @@ use Rattle.board.proofs.traps.broken_run.Statement.{statement}
 use Rattle.board.proofs.traps.broken_run.Tie as tie
 
 abbrev Inv-loop : tie.InvT-loop
-Inv-loop view store main₀ local₀ budget first room₀ end now₀ done₀ out₀ trap₀ main local room now done out trap =
+Inv-loop view reading store main₀ local₀ budget first room₀ end now₀ done₀ out₀ trap₀ main local room now done out trap =
     (done ≤ trap .after) × (done ≤ budget) × (length main ≡ length main₀) × (length local ≡ length local₀) × (length room ≡ length room₀)
-    × BrokenTo budget store main₀ local₀ now₀ (budget - done) main local now
+    × BrokenTo budget reading store main₀ local₀ now₀ (budget - done) main local now
 
 abbrev μ-loop : tie.MeasureT-loop
-μ-loop view store main₀ local₀ budget first room₀ end now₀ done₀ out₀ trap₀ main local room now done out trap = budget - trap .after
+μ-loop view reading store main₀ local₀ budget first room₀ end now₀ done₀ out₀ trap₀ main local room now done out trap = budget - trap .after
 
 loop-holds : tie.Need-loop-holds Inv-loop μ-loop
 loop-holds c =
     let a = c .before .before .before .before .before .before .args in
-    (search needs, search needs, refl, refl, refl, unbroken (a .budget) (a .store .now) (a .main .now) (a .local .now) (a .state))
+    (search needs, search needs, refl, refl, refl, unbroken (a .budget) (a .reading) (a .store .now) (a .main .now) (a .local .now) (a .state))
 
 -- the turn, from the call of a piece
 abbrev turn : (c : tie.After-go Inv-loop μ-loop) → tie.Then1 Inv-loop μ-loop
@@ -35,7 +35,7 @@ returns c =
     let ran = c .before .before .before .before .before .before .before .before .before .before in
     let at = turn ran .before .before .loop in
     let a = start ran .args in
-    ends-early (a .budget) (a .store .now) (a .main .now) (a .local .now) (a .state) (at .inv .5) (at .trap .after - at .done) (ran .go .ensures)
+    ends-early (a .budget) (a .reading) (a .store .now) (a .main .now) (a .local .now) (a .state) (at .inv .5) (at .trap .after - at .done) (ran .go .ensures)
     (sym (c .before .before .spent .ensures) ∙ not-true _ (c .before .if2 .taken))
 
 add-next : tie.Need-add-next Inv-loop μ-loop
@@ -55,10 +55,10 @@ loop-again c =
     let left : a .budget - at .done - (at .trap .after - at .done) ≡ a .budget - at .trap .after = omega (arith, at .inv .0) in (
       omega (arith, c .next2 .ensures),
       omega (arith, turn ran .if1 .taken),
-      ran .go .kept .1 .1 .1 .0 ∙ at .inv .2,
-      ran .go .kept .1 .1 .1 .1 .0 ∙ at .inv .3,
-      c .before .before .before .before .show .kept .1 .1 .0 ∙ ran .go .kept .1 .1 .1 .1 .1 .1 .1 .1 .0 ∙ at .inv .4,
-      goes-on (a .budget) (a .store .now) (a .main .now) (a .local .now) (a .state) (at .inv .5) (at .trap .after - at .done) (at .trap .address) (a .budget - at .trap .after) (ran .go .ensures)
+      ran .go .kept .1 .1 .1 .1 .0 ∙ at .inv .2,
+      ran .go .kept .1 .1 .1 .1 .1 .0 ∙ at .inv .3,
+      c .before .before .before .before .show .kept .1 .1 .0 ∙ ran .go .kept .1 .1 .1 .1 .1 .1 .1 .1 .1 .0 ∙ at .inv .4,
+      goes-on (a .budget) (a .reading) (a .store .now) (a .main .now) (a .local .now) (a .state) (at .inv .5) (at .trap .after - at .done) (at .trap .address) (a .budget - at .trap .after) (ran .go .ensures)
           (sym (trapped .before .before .spent .ensures) ∙ not-false _ (trapped .before .if2 .left)) left (c .before .state-of .ensures ∙ ap stateOf (trapped .trap .ensures)),
     )
 
@@ -67,7 +67,7 @@ returns-2 c =
     let ran = c .before .before .before .before .before .before .before in
     let at = ran .before .before .before .before .before .before .loop in
     let a = ran .before .before .before .before .before .before .before .before .before .before .before .before .before .args in
-    ends (a .budget) (a .store .now) (a .main .now) (a .local .now) (a .state) (at .inv .5) (ran .go2 .ensures)
+    ends (a .budget) (a .reading) (a .store .now) (a .main .now) (a .local .now) (a .state) (at .inv .5) (ran .go2 .ensures)
 
 pub broken-run-spec : {M : Type 1} → statement M
 broken-run-spec =

@@ -1,5 +1,5 @@
 -- The row of CM. Assumes nothing.
-use Rattle.machine.proofs.Arms.{at-least}
+use Rattle.codes.proofs.Arms.{at-least}
 use lib.ListN.{List·getD-eq-default}
 use Rattle.machine.specs.Storage.{accessOf, accesses, idle, readsLocal}
 use mathlib.Core.Path.{sym, _∙_}
@@ -20,15 +20,15 @@ returns-3 c = rw (c .writing2 .ensures, c .before .match .keys3)
 
 returns-4 : tie.Need-returns-4
 unfolding accessOf
-returns-4 c = rw (c .reading .ensures, c .before .match .keys4, c .before .before .before .reads-local .ensures)
+returns-4 c = rw (c .reads-at .ensures, c .before .match .keys4, c .before .before .before .reads-local .ensures)
 
 returns-5 : tie.Need-returns-5
 unfolding accessOf
-returns-5 c = rw (c .reading2 .ensures, c .before .match .keys5, c .before .before .before .reads-local .ensures)
+returns-5 c = rw (c .reads-at2 .ensures, c .before .match .keys5, c .before .before .before .reads-local .ensures)
 
 returns-6 : tie.Need-returns-6
 unfolding accessOf
-returns-6 c = rw (c .reading3 .ensures, c .before .before .first-of .ensures, c .before .match .keys6, c .before .before .before .reads-local .ensures)
+returns-6 c = rw (c .reads-at3 .ensures, c .before .before .first-of .ensures, c .before .match .keys6, c .before .before .before .reads-local .ensures)
 
 returns-7 : tie.Need-returns-7
 unfolding accessOf

@@ -1,5 +1,5 @@
 -- The row of CU. Assumes nothing.
-use Rattle.machine.proofs.Arms.{at-least}
+use Rattle.codes.proofs.Arms.{at-least}
 use lib.ListN.{List·getD-eq-default}
 use mathlib.Core.Path.{sym}
 use mathlib.Core.Bool.{true, false, not, _&&_}

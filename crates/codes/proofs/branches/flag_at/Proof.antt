@@ -4,8 +4,8 @@ use native.Mathlib.Omega.{arith}
 use mathlib.Core.Path.{sym}
 use mathlib.Core.Bool.{false}
 use borrow.Author.Needs.{needs}
-use Rattle.machine.proofs.tables.flag_at.Statement.{statement}
-use Rattle.machine.proofs.tables.flag_at.Tie as tie
+use Rattle.codes.proofs.branches.flag_at.Statement.{statement}
+use Rattle.codes.proofs.branches.flag_at.Tie as tie
 
 returns-2 : tie.Need-returns-2
 returns-2 c = sym (List·getD-eq-default (c .before .args .t1) false (omega arith))

@@ -1,24 +1,35 @@
 // The codes that are not modelled.
 ghost use mathlib.Core.Path.{_≡_};
-ghost use Rattle.machine.specs.Modelled.{unmodelledOf};
+ghost use Rattle.codes.specs.Modelled.{unmodelledOf};
+use crate::Reading;
 use digits::first_of;
 use word::Fields;
 
 // A row's field, by its place in the word.
-const PLACES: [u8; 11] = [4, 5, 6, 7, 7, 8, 9, 12, 15, 20, 21];
+const PLACES: [u8; 14] = [4, 4, 5, 5, 6, 7, 7, 8, 9, 12, 15, 20, 20, 21];
 
 // A row's five codes, the last repeated where it has fewer.
-const CODES: [u8; 55] = [
+const CODES: [u8; 70] = [
     4,
     5,
     5,
     5,
     5,
     3,
+    3,
+    3,
+    3,
+    3,
+    3,
+    15,
+    15,
+    15,
+    15,
     4,
     12,
-    15,
-    15,
+    12,
+    12,
+    12,
     6,
     7,
     7,
@@ -54,8 +65,13 @@ const CODES: [u8; 55] = [
     3,
     4,
     4,
-    5,
     14,
+    14,
+    14,
+    14,
+    14,
+    5,
+    15,
     15,
     15,
     15,
@@ -66,16 +82,19 @@ const CODES: [u8; 55] = [
     1,
 ];
 
-// No field has this code: it stands where a row does not speak of the word.
+// No field has this code: it stands where a row does not speak of the word, or not under the reading.
 const NONE: u8 = 255;
 
 // The place of the first field whose code is not modelled, or 0.
-pub(crate) fn unmodelled(f: Fields) -> u8
-    ensures { λ r. ⌜ r ≡ unmodelledOf f ⌝ }
+pub fn unmodelled(reading: Reading, f: Fields) -> u8
+    ensures { λ r. ⌜ r ≡ unmodelledOf reading f ⌝ }
 {
+    let basic = crate::is_basic(reading);
     let codes = [
         f.ch,
+        first_of(!basic, f.ch, NONE),
         f.cl,
+        first_of(basic, f.cl, NONE),
         f.cm,
         first_of(f.cm < 3, f.cu, NONE),
         first_of(3 <= f.cm, f.cu, NONE),
@@ -84,13 +103,14 @@ pub(crate) fn unmodelled(f: Fields) -> u8
         f.ak,
         f.cd,
         f.cs,
+        first_of(basic, f.cs, NONE),
         f.asb,
     ];
     // One layout of the table serves the whole scan.
     let table = CODES;
     let mut row: usize = 0;
     'scan: loop {
-        if row == 11 {
+        if row == 14 {
             break 'scan 0;
         }
         let code = codes[row];

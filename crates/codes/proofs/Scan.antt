@@ -12,16 +12,17 @@ use lib.Seq.{drop-cons}
 use Rattle.digits.specs.Table.{among}
 use Rattle.word.specs.Parity.{caToW}
 use Rattle.word.specs.declared.Fields.{Fields}
-use Rattle.machine.specs.Modelled.{unmodelledOf}
+use Rattle.codes.specs.Reading.{isBasic}
+use Rattle.codes.specs.Modelled.{unmodelledOf}
+use Rattle.codes.specs.declared.Reading.{Reading}
 
 -- the code's two tables
 abbrev places : List ℕ
-places = 4 ∷ 5 ∷ 6 ∷ 7 ∷ 7 ∷ 8 ∷ 9 ∷ 12 ∷ 15 ∷ 20 ∷ 21 ∷ []
+places = 4 ∷ 4 ∷ 5 ∷ 5 ∷ 6 ∷ 7 ∷ 7 ∷ 8 ∷ 9 ∷ 12 ∷ 15 ∷ 20 ∷ 20 ∷ 21 ∷ []
 
 abbrev table : List ℕ
 table =
-    4 ∷ 5 ∷ 5 ∷ 5 ∷ 5 ∷ 3 ∷ 4 ∷ 12 ∷ 15 ∷ 15 ∷ 6 ∷ 7 ∷ 7 ∷ 7 ∷ 7 ∷ 1 ∷ 1 ∷ 1 ∷ 1 ∷ 1 ∷ 2 ∷ 2 ∷ 2 ∷ 2 ∷ 2 ∷ 0 ∷ 1 ∷ 2 ∷ 3 ∷ 6 ∷ 1 ∷ 1 ∷ 1
-    ∷ 1 ∷ 1 ∷ 1 ∷ 1 ∷ 1 ∷ 1 ∷ 1 ∷ 1 ∷ 2 ∷ 3 ∷ 4 ∷ 4 ∷ 5 ∷ 14 ∷ 15 ∷ 15 ∷ 15 ∷ 1 ∷ 1 ∷ 1 ∷ 1 ∷ 1 ∷ []
+    4 ∷ 5 ∷ 5 ∷ 5 ∷ 5 ∷ 3 ∷ 3 ∷ 3 ∷ 3 ∷ 3 ∷ 3 ∷ 15 ∷ 15 ∷ 15 ∷ 15 ∷ 4 ∷ 12 ∷ 12 ∷ 12 ∷ 12 ∷ 6 ∷ 7 ∷ 7 ∷ 7 ∷ 7 ∷ 1 ∷ 1 ∷ 1 ∷ 1 ∷ 1 ∷ 2 ∷ 2 ∷ 2 ∷ 2 ∷ 2 ∷ 0 ∷ 1 ∷ 2 ∷ 3 ∷ 6 ∷ 1 ∷ 1 ∷ 1 ∷ 1 ∷ 1 ∷ 1 ∷ 1 ∷ 1 ∷ 1 ∷ 1 ∷ 1 ∷ 2 ∷ 3 ∷ 4 ∷ 4 ∷ 14 ∷ 14 ∷ 14 ∷ 14 ∷ 14 ∷ 5 ∷ 15 ∷ 15 ∷ 15 ∷ 15 ∷ 1 ∷ 1 ∷ 1 ∷ 1 ∷ 1 ∷ []
 
 -- the code is among those of the row from its place k on
 pub hit : ℕ → ℕ → ℕ → Bool
@@ -32,7 +33,7 @@ pub found : List ℕ → ℕ → ℕ → ℕ
 found codes row zero = 0
 found codes row (suc n) = cond (hit (getD codes row 0) row 0) (getD places row 0) (found codes (suc row) n)
 
-module _ (code row k : ℕ) (in-row : row < 11) (in-codes : k < 5) where
+module _ (code row k : ℕ) (in-row : row < 14) (in-codes : k < 5) where
   turn : hit code row k ≡ eqb code (getD table (row * 5 + k) 0) || hit code row (k + 1)
   unfolding hit
   turn =
@@ -53,15 +54,15 @@ unfolding hit
 hit-end code row k h = let m : 5 - k ≡ 0 = omega arith in rw m
 
 module _ (codes : List ℕ) (row : ℕ) where
-  pub found-on : row < 11 → hit (getD codes row 0) row 0 ≡ false → found codes (row + 1) (11 - (row + 1)) ≡ found codes row (11 - row)
+  pub found-on : row < 14 → hit (getD codes row 0) row 0 ≡ false → found codes (row + 1) (14 - (row + 1)) ≡ found codes row (14 - row)
   unfolding found
-  found-on h e = let m : 11 - row ≡ suc (11 - (row + 1)) = omega arith in rw (m, e, add-one row)
+  found-on h e = let m : 14 - row ≡ suc (14 - (row + 1)) = omega arith in rw (m, e, add-one row)
 
-  pub found-at : row < 11 → hit (getD codes row 0) row 0 ≡ true → getD places row 0 ≡ found codes row (11 - row)
+  pub found-at : row < 14 → hit (getD codes row 0) row 0 ≡ true → getD places row 0 ≡ found codes row (14 - row)
   unfolding found
-  found-at h e = let m : 11 - row ≡ suc (11 - (row + 1)) = omega arith in rw (m, e)
+  found-at h e = let m : 14 - row ≡ suc (14 - (row + 1)) = omega arith in rw (m, e)
 
-  pub found-end : row ≡ 11 → 0 ≡ found codes row (11 - row)
+  pub found-end : row ≡ 14 → 0 ≡ found codes row (14 - row)
   unfolding found
   found-end e = rw e
 
@@ -71,16 +72,20 @@ where-applies true code codes e = refl
 where-applies false code codes e = e
 
 -- the codes as the scan has them
-abbrev pub codesOf : Fields → List ℕ
-codesOf f =
-    f .ch ∷ f .cl ∷ f .cm ∷ cond (ltb (f .cm) 3) (f .cu) 255 ∷ cond (leb 3 (f .cm)) (f .cu) 255 ∷ cond (not (caToW f)) (f .ca) 255 ∷ f .aa
-    ∷ f .ak ∷ f .cd ∷ f .cs ∷ f .asb ∷ []
+abbrev pub codesOf : Reading → Fields → List ℕ
+codesOf reading f =
+    f .ch ∷ cond (not (isBasic reading)) (f .ch) 255 ∷ f .cl ∷ cond (isBasic reading) (f .cl) 255 ∷ f .cm ∷ cond (ltb (f .cm) 3) (f .cu) 255
+    ∷ cond (leb 3 (f .cm)) (f .cu) 255 ∷ cond (not (caToW f)) (f .ca) 255 ∷ f .aa ∷ f .ak ∷ f .cd ∷ f .cs ∷ cond (isBasic reading) (f .cs) 255
+    ∷ f .asb ∷ []
 
-pub found-is : (f : Fields) → found (codesOf f) 0 11 ≡ unmodelledOf f
+pub found-is : (reading : Reading) (f : Fields) → found (codesOf reading f) 0 14 ≡ unmodelledOf reading f
 unfolding found hit unmodelledOf
-found-is f =
+found-is reading f =
     rw (
+      where-applies (not (isBasic reading)) (f .ch) (3 ∷ 3 ∷ 3 ∷ 3 ∷ 3 ∷ []) refl,
+      where-applies (isBasic reading) (f .cl) (4 ∷ 12 ∷ 12 ∷ 12 ∷ 12 ∷ []) refl,
       where-applies (ltb (f .cm) 3) (f .cu) (1 ∷ 1 ∷ 1 ∷ 1 ∷ 1 ∷ []) refl,
       where-applies (leb 3 (f .cm)) (f .cu) (2 ∷ 2 ∷ 2 ∷ 2 ∷ 2 ∷ []) refl,
       where-applies (not (caToW f)) (f .ca) (0 ∷ 1 ∷ 2 ∷ 3 ∷ 6 ∷ []) refl,
+      where-applies (isBasic reading) (f .cs) (5 ∷ 15 ∷ 15 ∷ 15 ∷ 15 ∷ []) refl,
     ) (simp or-self-left)

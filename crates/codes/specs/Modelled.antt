@@ -8,8 +8,10 @@ use Rattle.digits.specs.Table.{among}
 use Rattle.word.specs.Layout.{CH, CL, CM, CU, CA, AA, AK, CD, CS, AS}
 use Rattle.word.specs.Parity.{caToW}
 use Rattle.word.specs.declared.Fields.{Fields}
+use Rattle.codes.specs.Reading.{isBasic}
+use Rattle.codes.specs.declared.Reading.{Reading}
 
--- a field by its place in the word, whether the row speaks of this word, the field's code, and the codes not modelled
+-- a field by its place in the word, whether the row speaks of this word under the reading, the field's code, and the codes not modelled
 pub record CodeRow : Type 0 where
   pub place : ℕ
   pub applies : Bool
@@ -19,11 +21,15 @@ pub record CodeRow : Type 0 where
 abbrev pub codeRow : ℕ → Bool → ℕ → List ℕ → CodeRow
 codeRow place applies code codes = record { place = place; applies = applies; code = code; codes = codes }
 
--- the codes that are not modelled, in word order
-abbrev pub codeRows : Fields → List CodeRow
-codeRows f =
+-- the codes that are not modelled, in word order: "10 follows the reading's own list"
+abbrev pub codeRows : Reading → Fields → List CodeRow
+codeRows reading f =
     codeRow CH true (f .ch) (4 ∷ 5 ∷ []) ∷
-    codeRow CL true (f .cl) (3 ∷ 4 ∷ 12 ∷ 15 ∷ []) ∷
+    -- compatibility: "CH 3 is not modelled there, since the figure is unclear."
+    codeRow CH (not (isBasic reading)) (f .ch) (3 ∷ []) ∷
+    codeRow CL true (f .cl) (3 ∷ 15 ∷ []) ∷
+    -- basic: in compatibility they are G1 and R3
+    codeRow CL (isBasic reading) (f .cl) (4 ∷ 12 ∷ []) ∷
     codeRow CM true (f .cm) (6 ∷ 7 ∷ []) ∷
     -- Write, none, Store: only CU 0, 2 and 3, which is the return
     codeRow CU (ltb (f .cm) 3) (f .cu) (1 ∷ []) ∷
@@ -34,7 +40,9 @@ codeRows f =
     codeRow AA true (f .aa) (1 ∷ []) ∷
     codeRow AK true (f .ak) (1 ∷ []) ∷
     codeRow CD true (f .cd) (1 ∷ 2 ∷ 3 ∷ 4 ∷ []) ∷
-    codeRow CS true (f .cs) (5 ∷ 14 ∷ 15 ∷ []) ∷
+    codeRow CS true (f .cs) (14 ∷ []) ∷
+    -- basic: in compatibility they turn S1 on and off
+    codeRow CS (isBasic reading) (f .cs) (5 ∷ 15 ∷ []) ∷
     codeRow AS true (f .asb) (1 ∷ []) ∷
     []
 
@@ -42,5 +50,5 @@ abbrev pub rowCheck : CodeRow → Check
 rowCheck r = (r .place, r .applies && among (r .code) (r .codes))
 
 -- 10 "names the first field in word order": its place, or 0 where all are modelled
-unfoldable pub unmodelledOf : Fields → ℕ
-unmodelledOf f = first (map rowCheck (codeRows f))
+unfoldable pub unmodelledOf : Reading → Fields → ℕ
+unmodelledOf reading f = first (map rowCheck (codeRows reading f))

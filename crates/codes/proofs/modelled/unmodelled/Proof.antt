@@ -2,32 +2,24 @@
 use Prim.Native.Nat.{ℕ, _-_, _≤_}
 use mathlib.Core.Path.{_≡_, refl, sym, _∙_}
 use mathlib.Core.List.{List, [], _∷_}
+use mathlib.Core.Bool.{cond, not}
 use native.Mathlib.Omega.{arith}
-use Rattle.machine.specs.Modelled.{unmodelledOf}
-use Rattle.machine.proofs.Scan.{hit, hit-yes, hit-no, hit-end, found, found-on, found-at, found-end, found-is}
-use Rattle.machine.proofs.modelled.unmodelled.Statement.{statement}
-use Rattle.machine.proofs.modelled.unmodelled.Tie as tie
+use Rattle.codes.specs.Modelled.{unmodelledOf}
+use Rattle.codes.proofs.Scan.{hit, hit-yes, hit-no, hit-end, found, found-on, found-at, found-end, found-is}
+use Rattle.codes.proofs.modelled.unmodelled.Statement.{statement}
+use Rattle.codes.proofs.modelled.unmodelled.Tie as tie
 
 abbrev Inv-loop : tie.InvT-loop
-Inv-loop codes table row code k₀ k = (k ≤ 5) × (hit code row k ≡ hit code row k₀)
+Inv-loop basic codes table row code k₀ k = (k ≤ 5) × (hit code row k ≡ hit code row k₀)
 
 abbrev μ-loop : tie.MeasureT-loop
-μ-loop codes table row code k₀ k = 5 - k
+μ-loop basic codes table row code k₀ k = 5 - k
 
 abbrev Inv-scan : tie.InvT-scan
-Inv-scan codes table row₀ row = (row ≤ 11) × (found codes row (11 - row) ≡ found codes row₀ (11 - row₀))
+Inv-scan basic codes table row₀ row = (row ≤ 14) × (found codes row (14 - row) ≡ found codes row₀ (14 - row₀))
 
 abbrev μ-scan : tie.MeasureT-scan
-μ-scan codes table row₀ row = 11 - row
-
-first-of-requires : tie.Need-first-of-requires Inv-loop μ-loop Inv-scan μ-scan
-first-of-requires c κs = tt
-
-first-of-requires-2 : tie.Need-first-of-requires-2 Inv-loop μ-loop Inv-scan μ-scan
-first-of-requires-2 c κs = tt
-
-first-of-requires-3 : tie.Need-first-of-requires-3 Inv-loop μ-loop Inv-scan μ-scan
-first-of-requires-3 c κs = tt
+μ-scan basic codes table row₀ row = 14 - row
 
 scan-holds : tie.Need-scan-holds Inv-loop μ-loop Inv-scan μ-scan
 scan-holds c = (omega arith, refl)
@@ -71,25 +63,41 @@ scan-again c = (
   found-on _ _ (omega arith) (sym (c .before .loop .inv .1) ∙ hit-end _ _ _ (c .loop-test .left)) ∙ c .before .before .before .scan .inv .1,
 )
 
--- the codes as the scan has them
-abbrev codesIn : tie.After-first-of3 Inv-loop μ-loop Inv-scan μ-scan → List ℕ
+-- the codes as the scan has them, and what it was asked
+abbrev codesIn : tie.After-first-of6 Inv-loop μ-loop Inv-scan μ-scan → List ℕ
 codesIn c =
-    let f = c .before .before .before .before .before .before .args .f in
-    f .ch ∷ f .cl ∷ f .cm ∷ c .before .before .before .before .first-of .result ∷ c .before .before .first-of2 .result ∷ c .first-of3 .result ∷ f .aa ∷ f .ak ∷ f .cd
-    ∷ f .cs ∷ f .asb ∷ []
+    let in-read = c .before .before .before in
+    let in-write = in-read .before .before in
+    let in-cl = in-write .before .before in
+    let in-ch = in-cl .before in
+    let f = in-ch .before .before .args .f in
+    f .ch ∷ in-ch .first-of .result ∷ f .cl ∷ in-cl .first-of2 .result ∷ f .cm ∷ in-write .first-of3 .result ∷ in-read .first-of4 .result ∷ c .before .first-of5 .result
+    ∷ f .aa ∷ f .ak ∷ f .cd ∷ f .cs ∷ c .first-of6 .result ∷ f .asb ∷ []
+
+abbrev asked : tie.After-first-of6 Inv-loop μ-loop Inv-scan μ-scan → tie.Start Inv-loop μ-loop Inv-scan μ-scan
+asked c = c .before .before .before .before .before .before .before .before .before .before
 
 -- they are the paper's
-whole : (c : tie.After-first-of3 Inv-loop μ-loop Inv-scan μ-scan) (n : ℕ) → n ≡ found (codesIn c) 0 11 → n ≡ unmodelledOf (c .before .before .before .before .before .before .args .f)
+whole : (c : tie.After-first-of6 Inv-loop μ-loop Inv-scan μ-scan) (n : ℕ) → n ≡ found (codesIn c) 0 14
+    → n ≡ unmodelledOf (asked c .args .reading) (asked c .args .f)
 whole c n e =
-    let f = c .before .before .before .before .before .before .args .f in
+    let in-read = c .before .before .before in
+    let in-write = in-read .before .before in
+    let in-cl = in-write .before .before in
+    let in-ch = in-cl .before in
+    let basic = in-ch .before .is-basic .ensures in
+    let f = asked c .args .f in
+    let ch = in-ch .first-of .ensures ∙ λ i. cond (not (basic i)) (f .ch) 255 in
+    let cl = in-cl .first-of2 .ensures ∙ λ i. cond (basic i) (f .cl) 255 in
+    let cs = c .first-of6 .ensures ∙ λ i. cond (basic i) (f .cs) 255 in
     e
     ∙ (λ i.
     found
-    (f .ch ∷ f .cl ∷ f .cm ∷ c .before .before .before .before .first-of .ensures i ∷ c .before .before .first-of2 .ensures i ∷ c .first-of3 .ensures i ∷ f .aa ∷ f .ak
-    ∷ f .cd ∷ f .cs ∷ f .asb ∷ [])
+    (f .ch ∷ ch i ∷ f .cl ∷ cl i ∷ f .cm ∷ in-write .first-of3 .ensures i ∷ in-read .first-of4 .ensures i ∷ c .before .first-of5 .ensures i ∷ f .aa ∷ f .ak ∷ f .cd ∷ f .cs
+    ∷ cs i ∷ f .asb ∷ [])
     0
-    11)
-    ∙ found-is f
+    14)
+    ∙ found-is (asked c .args .reading) f
 
 returns : tie.Need-returns Inv-loop μ-loop Inv-scan μ-scan
 returns c = whole (c .before .before) _ (found-end _ _ (c .if1 .taken) ∙ c .before .scan .inv .1)
@@ -107,9 +115,13 @@ unmodelled-spec =
     μ-loop
     Inv-scan
     μ-scan
-    first-of-requires
-    first-of-requires-2
-    first-of-requires-3
+    (λ c κs. tt)
+    (λ c κs. tt)
+    (λ c κs. tt)
+    (λ c κs. tt)
+    (λ c κs. tt)
+    (λ c κs. tt)
+    (λ c κs. tt)
     scan-holds
     array-read-code
     loop-holds

@@ -1,0 +1,4 @@
+pub mod Arms
+mod Scan
+pub mod Alike
+pub mod Promises
