@@ -1,6 +1,5 @@
 // Traps and returns against tests/second: calls alone, return words beside every CM, CH and CL, and runs that traps break into.
 use codes::Reading;
-use libc::STDOUT_FILENO;
 use machine::Cycled;
 use machine::State;
 use run::Ending;

@@ -150,7 +150,9 @@ fn the_lesson_of_the_readings_has_each_of_the_seven_codes() {
 #[test]
 fn what_ship_does_not_know_is_told() {
     let names = ["", "ad", "adds", "ap", "sp", "APSP", "apsp ", "apspapsp", "apspapspapsp", "help"];
-    for name in names.into_iter().chain(["tra", "traps", "TRAP", " trap", "traptrap", "return", "reading", "readingss", "READINGS", "readingsreadings"]) {
+    let traps = ["tra", "traps", "TRAP", " trap", "traptrap", "return"];
+    let readings = ["reading", "readingss", "READINGS", "readingsreadings"];
+    for name in names.into_iter().chain(traps).chain(readings) {
         told(&said("ship", &[name], &[]), "ship: argument 1 is neither add, apsp, trap nor readings\n");
     }
     for arguments in [&["add", "apsp"][..], &["apsp", ""], &["trap", "add"], &["x", "y", "z"]] {
