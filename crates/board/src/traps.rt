@@ -134,19 +134,8 @@ pub fn broken_run(
     let mut out = begun;
     let mut trap = next(first, end, 0);
     while trap.after < budget {
-        let piece = trap.after - done;
-        let went = go::go(
-            view,
-            done,
-            reading,
-            store,
-            main,
-            local,
-            now,
-            piece,
-            out,
-            room,
-        );
+        let leg = trap.after - done;
+        let went = go::go(view, done, reading, store, main, local, now, leg, out, room);
         let finished = went.finished;
         let ending = finished.ending;
         if !spent(ending) {
@@ -159,19 +148,8 @@ pub fn broken_run(
         done = trap.after;
         trap = next(first, end, done + 1);
     }
-    let rest = budget - done;
-    let went = go::go(
-        view,
-        done,
-        reading,
-        store,
-        main,
-        local,
-        now,
-        rest,
-        out,
-        room,
-    );
+    let leg = budget - done;
+    let went = go::go(view, done, reading, store, main, local, now, leg, out, room);
     missed(trap);
     went
 }
