@@ -86,10 +86,23 @@ uint32_t panel_shipped_signed(uint64_t *words, size_t room);
  * FWX and OWED, and no other byte. */
 uint32_t panel_trap(uint32_t address, uint8_t *state, size_t state_len);
 
+/* 0, or 32: a fence is empty or reaches outside main storage of so many bytes, or the two overlap. */
+uint32_t panel_open(size_t main_len, size_t a_start, size_t a_end, size_t b_start, size_t b_end);
+
+/* One turn: a cycle of the board whose local storage, state and fence these are, beside a board with the other
+ * fence. As panel_cycle; 19, then 1, then 32, then the cycle's own refusals, 11 by the board's own fence. */
+uint32_t panel_turn(uint8_t reading, const uint64_t *store, size_t words, uint8_t *main, size_t main_len,
+                    uint8_t *local, size_t local_len, uint8_t *state, size_t state_len,
+                    size_t start, size_t end, size_t other_start, size_t other_end);
+
 /* Decimal add: first field += second field. kind (PANEL_SUMMED, PANEL_BAD_DIGIT or PANEL_REFUSED)
  * + 256 * refusal number + 65536 * carry out + 2^32 * the cycles that ran. carry_in: off at 0, on otherwise. */
 uint64_t panel_add_decimal(uint8_t *main, size_t main_len, uint8_t *local, size_t local_len,
                            size_t first, size_t second, size_t length, uint8_t carry_in);
+
+/* The same inside a fence: 1, then 32 for a fence that is empty or reaches outside, 12, 13 by the fence, 14. */
+uint64_t panel_add_decimal_in(uint8_t *main, size_t main_len, uint8_t *local, size_t local_len,
+                              size_t first, size_t second, size_t length, uint8_t carry_in, size_t start, size_t end);
 
 /* AP and SP, decimal add and subtract with signs: first field += second field, and first field -= second field. The last
  * digit of a field is its sign, A, C, E, F plus, B, D minus. PANEL_SUMMED, PANEL_BAD_DIGIT (or a bad sign) or PANEL_REFUSED

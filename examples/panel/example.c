@@ -2,8 +2,9 @@
  * add 38, 47 and a carry by the shipped words, a cycle at a time, and look into the adder before each cycle. Then make
  * that addition on two panels, one with the single-cycle button and then the run button, one with the run button alone.
  * Then add with the six already in D, and see the lamp that tells. Then read a signed field, write its number back, and
- * read one whose sign is bad. Then subtract with signs. Then break into an addition by a trap. Last, read two words as
- * basic and as compatibility. build.sh beside this file builds and runs it.
+ * read one whose sign is bad. Then subtract with signs. Then break into an addition by a trap. Then read two words as
+ * basic and as compatibility. Last, let two boards add on one core, each in its fence. build.sh beside this file builds
+ * and runs it.
  */
 #include "../../include/panel.h"
 
@@ -199,8 +200,51 @@ static int two_readings(void) {
            read_as(PANEL_COMPATIBILITY, 4) != 0;
 }
 
+/* A board of a session: its fence, and what is its own. */
+struct board {
+    size_t start, end;
+    uint8_t local[256];
+    uint8_t state[PANEL_STATE];
+};
+
+static uint8_t core[256]; /* one main storage for both */
+
+static uint32_t turn(struct board *own, const struct board *other, const uint64_t *words, size_t count) {
+    return panel_turn(PANEL_BASIC, words, count, core, sizeof core, own->local, sizeof own->local, own->state,
+                      sizeof own->state, own->start, own->end, other->start, other->end);
+}
+
+/* The board's two fields, a byte each, stand at the start of its fence and 10 further on. */
+static int begin(struct board *b, uint8_t first, uint8_t second) {
+    core[b->start] = first;
+    core[b->start + 0x10] = second;
+    return panel_start(b->start, b->start + 0x10, 1, 0, b->state, sizeof b->state) == 0;
+}
+
+/* Both add at once, a cycle of the one and a cycle of the other; then B once more, with a fence that ends too soon. */
+static int one_core(void) {
+    static struct board a = {0x10, 0x30, {0}, {0}}, b = {0x80, 0xA0, {0}, {0}};
+    uint64_t words[64];
+    uint32_t count = panel_shipped(words, 64), of_a, of_b;
+    unsigned turns = 0;
+    if (count > 64 || !begin(&a, 0x38, 0x47) || !begin(&b, 0x99, 0x01)) return 1;
+    printf("fences 10:30 and 80:A0: %u\n", panel_open(sizeof core, a.start, a.end, b.start, b.end));
+    do {
+        of_a = turn(&a, &b, words, count);
+        of_b = turn(&b, &a, words, count);
+        turns++;
+    } while (of_a == PANEL_RAN || of_b == PANEL_RAN);
+    printf("after %u turns each, A: kind %u, sum %02X; B: kind %u, sum %02X\n", turns, of_a, core[0x10], of_b, core[0x80]);
+    b.end = 0x90;
+    if (!begin(&b, 0x99, 0x01)) return 1;
+    while ((of_b = turn(&b, &a, words, count)) == PANEL_RAN) continue;
+    printf("B in 80:90: refused by %u, and its field is %02X\n", of_b / 256, core[0x80]);
+    printf("fences 10:30 and 2F:A0: %u\n", panel_open(sizeof core, 0x10, 0x30, 0x2F, 0xA0));
+    return of_a != PANEL_STOPPED;
+}
+
 int main(void) {
     return one_cycle_of_p() != 0 || shipped_words() != 0 || two_buttons() != 0 || six_by_hand(0x47) != 0 ||
            six_by_hand(0xAD) != 0 || signed_fields() != 0 || with_signs() != 0 || broken_into() != 0 ||
-           two_readings() != 0;
+           two_readings() != 0 || one_core() != 0;
 }

@@ -46,9 +46,12 @@ static u64 answered(u64 done, u64 wx, u64 digit_carry, u64 invalid) {
     return done | wx << 32 | digit_carry << 48 | invalid << 49;
 }
 
+// As in the proved engine's run, all main storage is in the fence.
+static const struct fence whole = {0, MAIN};
+
 static u64 by_plain(struct storage *s) {
     struct plain state = {0};
-    u64 done = plain_run(PANEL_BASIC, store, WORDS, s->main, MAIN, s->local, &state, BUDGET);
+    u64 done = plain_run(whole, PANEL_BASIC, store, WORDS, s->main, MAIN, s->local, &state, BUDGET);
     return answered(done, state.wx, state.digit_carry, state.invalid);
 }
 
@@ -92,7 +95,7 @@ static void told(const char *name, struct storage *s) {
     draw(s);
     for (int k = 0; k < BUDGET; k++) {
         times[state.wx]++;
-        plain_run(PANEL_BASIC, store, WORDS, s->main, MAIN, s->local, &state, 1);
+        plain_run(whole, PANEL_BASIC, store, WORDS, s->main, MAIN, s->local, &state, 1);
     }
     for (int at = 0; at < WORDS; at++) {
         words += times[at] > 0;

@@ -119,7 +119,7 @@ static u8 status(int cs, u8 s, u8 z) {
 }
 
 // 0 ran, 1 stopped, 256 * number + field refused.
-static int cycle(int reading, const u64 *store, u64 words, u8 *main, u64 bytes, u8 *local, struct plain *s) {
+static int cycle(struct fence fence, int reading, const u64 *store, u64 words, u8 *main, u64 bytes, u8 *local, struct plain *s) {
     if (s->wx >= words) return 2 << 8;
     u64 w = store[s->wx];
     int no = fault(w, s->wx);
@@ -149,7 +149,8 @@ static int cycle(int reading, const u64 *store, u64 words, u8 *main, u64 bytes, 
     if (cm == 4) m = t.reg[U], n = t.reg[V];
     if (cm == 5) m = kind ? m : t.reg[L], n = t.reg[T];
     int fetches = reads && !latch, puts = !reads && cm != 1 && latch;
-    if ((fetches || puts) && !kind && (u32)(m << 8 | n) >= bytes) return 11 << 8;
+    u64 at = m << 8 | n;
+    if ((fetches || puts) && !kind && (at >= bytes || at < fence.start || at >= fence.end)) return 11 << 8;
     // Arithmetic.
     if (cf > 4) a = a >> 4 | a << 4;
     cf &= 3;
@@ -177,8 +178,8 @@ static int cycle(int reading, const u64 *store, u64 words, u8 *main, u64 bytes, 
     }
     t.z0 = !z;
     // Storage: done.
-    if (puts) *(kind ? &local[n] : &main[m << 8 | n]) = t.reg[R], latch = 0;
-    if (fetches) fetched = kind ? local[n] : main[m << 8 | n], t.arriving = 1;
+    if (puts) *(kind ? &local[n] : &main[at]) = t.reg[R], latch = 0;
+    if (fetches) fetched = kind ? local[n] : main[at], t.arriving = 1;
     t.reg[M] = m, t.reg[N] = n, t.local = kind, t.allow = reads ? 1 : latch, t.byte = fetched;
     if (!reads && cm != 1) t.allow = 0;
     // Destination, status, S3, WX.
@@ -193,8 +194,8 @@ static int cycle(int reading, const u64 *store, u64 words, u8 *main, u64 bytes, 
     return 0;
 }
 
-u64 plain_run(u8 reading, const u64 *store, u64 words, u8 *main, u64 bytes, u8 *local, struct plain *s, u32 budget) {
+u64 plain_run(struct fence fence, u8 reading, const u64 *store, u64 words, u8 *main, u64 bytes, u8 *local, struct plain *s, u32 budget) {
     u32 done = 0;
-    while (done < budget && !cycle(reading != 0, store, words, main, bytes, local, s)) done++;
+    while (done < budget && !cycle(fence, reading != 0, store, words, main, bytes, local, s)) done++;
     return done;
 }

@@ -181,6 +181,25 @@ static uint64_t called(int call) {
         uint8_t *state = slice(1);
         return panel_trap(address, state, count_of(0));
     }
+    case 17: {
+        size_t main_len = number(), a_start = number(), a_end = number(), b_start = number(), b_end = number();
+        return panel_open(main_len, a_start, a_end, b_start, b_end);
+    }
+    case 18: {
+        uint8_t reading = (uint8_t)number();
+        uint64_t *store = slice(8);
+        uint8_t *main = slice(1), *local = slice(1), *state = slice(1);
+        size_t start = number(), end = number(), other_start = number(), other_end = number();
+        return panel_turn(reading, store, count_of(0), main, count_of(1), local, count_of(2), state, count_of(3), start,
+                          end, other_start, other_end);
+    }
+    case 19: {
+        uint8_t *main = slice(1), *local = slice(1);
+        size_t first = number(), second = number(), length = number();
+        uint8_t carry_in = (uint8_t)number();
+        size_t start = number(), end = number();
+        return panel_add_decimal_in(main, count_of(0), local, count_of(1), first, second, length, carry_in, start, end);
+    }
     default:
         exit(6);
         return 0;

@@ -1,7 +1,8 @@
-// Decimal adds against tests/second: every length and carry, bad digits in every place, one field twice, the ends of
-// storage, and each refusal.
+// Decimal adds against tests/second, in all main storage and in fences: every length and carry, bad digits in every place, one field
+// twice, the ends of storage and of a fence, and each refusal.
 use agree::Trial;
 use decimal::Added;
+use storage::Fence;
 
 // The generator's last number, and the digest.
 struct Going {
@@ -57,17 +58,74 @@ fn mix_added(digest: u64, answer: Added, counts: &mut [u32]) -> u64 {
     }
 }
 
-fn lend(t: Trial, digest: u64, main: &mut [u8], local: &mut [u8], counts: &mut [u32]) -> u64 {
+// The sum, or the first of two that are as large as numbers go.
+fn plus(n: usize, m: usize) -> usize {
+    if n < 70000 {
+        if m < 70000 {
+            return n + m;
+        }
+    }
+    n
+}
+
+fn fence_start(low: usize, high: usize, y: u64) -> usize {
+    match y % 8 {
+        0 => low,
+        1 => plus(low, 1),
+        2 => agree::less(low, 1),
+        3 => high,
+        _ => 0,
+    }
+}
+
+fn fence_end(last: usize, main: usize, y: u64) -> usize {
+    match y % 8 {
+        0 => last,
+        1 => agree::less(last, 1),
+        2 => plus(last, 1),
+        3 => plus(main, 1),
+        _ => main,
+    }
+}
+
+// A fence round both fields, or one byte narrower or wider, or up to an end of main storage.
+fn fence_for(t: Trial, y: u64) -> Fence {
+    let low = if t.first < t.second {
+        t.first
+    } else {
+        t.second
+    };
+    let high = if t.first < t.second {
+        t.second
+    } else {
+        t.first
+    };
+    Fence {
+        start: fence_start(low, high, y),
+        end: fence_end(plus(high, t.length), t.main, y / 8),
+    }
+}
+
+// One add in two is in a fence.
+fn added(t: Trial, y: u64, main: &mut [u8], local: &mut [u8]) -> Added {
+    if y / 64 % 2 == 1 {
+        let fence = fence_for(t, y);
+        return session::add(fence, main, local, t.first, t.second, t.length, t.on);
+    }
+    decimal::add(main, local, t.first, t.second, t.length, t.on)
+}
+
+fn lend(
+    t: Trial,
+    y: u64,
+    digest: u64,
+    main: &mut [u8],
+    local: &mut [u8],
+    counts: &mut [u32],
+) -> u64 {
     let m = agree::at_most(t.main, main.len());
     let l = agree::at_most(t.local, local.len());
-    let answer = decimal::add(
-        &mut main[0..m],
-        &mut local[0..l],
-        t.first,
-        t.second,
-        t.length,
-        t.on,
-    );
+    let answer = added(t, y, &mut main[0..m], &mut local[0..l]);
     mix_added(digest, answer, counts)
 }
 
@@ -87,11 +145,12 @@ fn case(g: Going, main: &mut [u8], local: &mut [u8], counts: &mut [u32]) -> Goin
     let a = agree::next(g.x);
     let b = agree::next(a);
     let c = agree::next(b);
+    let y = agree::next(c);
     let t = agree::drawn_fields(a, b);
-    let x = fill_low(c, c / 0x100, main);
+    let x = fill_low(y, c / 0x100, main);
     let x = fill_high(x, c / 0x400, main);
     spoil_some(main, t, c);
-    let d = lend(t, g.digest, main, local, counts);
+    let d = lend(t, y, g.digest, main, local, counts);
     Going {
         x: x,
         digest: agree::mix_ends(d, main, local),
@@ -128,6 +187,7 @@ fn report(counts: &[u32]) {
     agree::print_count(b"refused 12", agree::counted(counts, 28));
     agree::print_count(b"refused 13", agree::counted(counts, 29));
     agree::print_count(b"refused 14", agree::counted(counts, 30));
+    agree::print_count(b"refused 32", agree::counted(counts, 48));
 }
 
 fn main() {

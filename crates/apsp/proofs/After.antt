@@ -2,17 +2,18 @@
 use Prim.Native.Nat.{ℕ, suc, _+_, _/_, _%_, _<_, _≤_}
 use mathlib.Core.Path.{_≡_, refl, _∙_}
 use mathlib.Core.List.{List, [], _∷_}
-use mathlib.Core.Bool.{Bool, true, false, cond, not}
+use mathlib.Core.Bool.{Bool, true, false, cond, not, _||_}
 use lib.Dec.{leb}
 use lib.ListN.{length, getD, set}
 use Rattle.digits.specs.Bits.{one, withBit}
 use Rattle.digits.proofs.Bits.{bit-with}
+use Rattle.storage.specs.Storage.{beyond, whole, accessOf}
+use Rattle.storage.proofs.Inside.{In}
 use Rattle.adder.specs.Adder.{summed, resultOf, sumOf}
 use Rattle.adder.specs.declared.Sum.{Sum}
 use Rattle.adder.proofs.Laws.{arithmetic, arithmetic-byte}
 use Rattle.machine.specs.Sources.{entered, sumIn}
 use Rattle.machine.specs.Branch.{nextOf}
-use Rattle.machine.specs.Storage.{accessOf}
 use Rattle.machine.specs.Status.{statusOf}
 use Rattle.codes.specs.Modelled.{unmodelledOf}
 use Rattle.machine.specs.declared.State.{State}
@@ -40,10 +41,10 @@ still s on off m e = simp saved e
 -- the carry out in S3, and I J at the last byte
 module _ (local main : List ℕ) (a b l t : ℕ) (z last minus first : Bool) (small : l < 256) where
   pub three : (p c : Bool) → let m = marked p z last minus first in
-      Block signedWords local 3 (at 0x0B main (view a b l t c m)) (at (ahead p c z first) main (view (a + l) b l t c m))
+      Block whole signedWords local 3 (at 0x0B main (view a b l t c m)) (at (ahead p c z first) main (view (a + l) b l t c m))
   unfolding entered sumIn sumOf accessOf nextOf statusOf unmodelledOf marks
   three false false =
-      look signedWords local 0x0B main (view a b l t false (marked false z last minus first))
+      look whole signedWords local 0x0B main (view a b l t false (marked false z last minus first))
       (λ x right carry status.
       steps local (run 0x0B ∷ run 0x14 ∷ run 0x28 ∷ []) tt right
       (record {
@@ -54,7 +55,7 @@ module _ (local main : List ℕ) (a b l t : ℕ) (z last minus first : Bool) (sm
         known = record { first = along _ a l small; second = refl; l = refl; t = refl; carry = carry; status = simp saved status };
       }))
   three false true =
-      look signedWords local 0x0B main (view a b l t true (marked false z last minus first))
+      look whole signedWords local 0x0B main (view a b l t true (marked false z last minus first))
       (λ x right carry status.
       steps local (run 0x0B ∷ run 0x14 ∷ run 0x29 ∷ []) tt right
       (record {
@@ -65,7 +66,7 @@ module _ (local main : List ℕ) (a b l t : ℕ) (z last minus first : Bool) (sm
         known = record { first = along _ a l small; second = refl; l = refl; t = refl; carry = carry; status = simp saved status };
       }))
   three true false =
-      look signedWords local 0x0B main (view a b l t false (marked true z last minus first))
+      look whole signedWords local 0x0B main (view a b l t false (marked true z last minus first))
       (λ x right carry status.
       steps local (run 0x0B ∷ run 0x14 ∷ run 0x2A ∷ []) tt right
       (record {
@@ -76,7 +77,7 @@ module _ (local main : List ℕ) (a b l t : ℕ) (z last minus first : Bool) (sm
         known = record { first = along _ a l small; second = refl; l = refl; t = refl; carry = carry; status = simp saved status };
       }))
   three true true =
-      look signedWords local 0x0B main (view a b l t true (marked true z last minus first))
+      look whole signedWords local 0x0B main (view a b l t true (marked true z last minus first))
       (λ x right carry status.
       steps local (run 0x0B ∷ run 0x14 ∷ run 0x2B ∷ []) tt right
       (record {
@@ -93,18 +94,18 @@ module _ (local main : List ℕ) (a b l t : ℕ) (z last minus first : Bool) (sm
 abbrev pub signed-last : ℕ → Bool → ℕ
 signed-last byte minus = arithmetic false byte (12 + one minus) 0 .result
 
-module _ (local main : List ℕ) (fits : length main ≤ 65536) (a b l t : ℕ) (c p z last first : Bool) (ha : a < length main) where
-  in-a : _≡_ {A = Bool} (leb (length main) (held a)) false
-  in-a = within a (length main) ha fits
+module _ (local main : List ℕ) (fits : length main ≤ 65536) (a b l t : ℕ) (c p z last first : Bool) (ha : In whole (length main) a) where
+  in-a : _≡_ {A = Bool} (leb (length main) (held a) || beyond whole (held a)) false
+  in-a = within whole a (length main) ha fits
 
   there : held a ≡ a
-  there = address a (length main) ha fits
+  there = address whole a (length main) ha fits
 
   -- zero is plus
-  pub seals-zero : (minus : Bool) → Block signedWords local 3 (at 0x2C main (view a b l t c (marked p z last minus first))) (ended DONE (set main a (signed-last (getD main a 0) false)) false)
+  pub seals-zero : (minus : Bool) → Block whole signedWords local 3 (at 0x2C main (view a b l t c (marked p z last minus first))) (ended DONE (set main a (signed-last (getD main a 0) false)) false)
   unfolding entered sumIn sumOf accessOf nextOf statusOf unmodelledOf marks summed resultOf
   seals-zero minus =
-      look signedWords local 0x2C main (view a b l t c (marked p z last minus first))
+      look whole signedWords local 0x2C main (view a b l t c (marked p z last minus first))
       (λ x right carry status.
       steps local (run 0x2C ∷ run 0x30 ∷ run 0x31 ∷ []) tt right
       (record {
@@ -116,10 +117,10 @@ module _ (local main : List ℕ) (fits : length main ≤ 65536) (a b l t : ℕ) 
       }))
 
   -- any other number has its own sign, and so has one that overflowed
-  pub seals : (over minus : Bool) → Block signedWords local 3 (at (cond over 0x2D 0x2E) main (view a b l t c (marked p z last minus first))) (ended DONE (set main a (signed-last (getD main a 0) minus)) over)
+  pub seals : (over minus : Bool) → Block whole signedWords local 3 (at (cond over 0x2D 0x2E) main (view a b l t c (marked p z last minus first))) (ended DONE (set main a (signed-last (getD main a 0) minus)) over)
   unfolding entered sumIn sumOf accessOf nextOf statusOf unmodelledOf marks summed resultOf
   seals false false =
-      look signedWords local 0x2E main (view a b l t c (marked p z last false first))
+      look whole signedWords local 0x2E main (view a b l t c (marked p z last false first))
       (λ x right carry status.
       steps local (run 0x2E ∷ run 0x30 ∷ run 0x31 ∷ []) tt right
       (record {
@@ -130,7 +131,7 @@ module _ (local main : List ℕ) (fits : length main ≤ 65536) (a b l t : ℕ) 
         known = bit-with (x .s) 3 false;
       }))
   seals false true =
-      look signedWords local 0x2E main (view a b l t c (marked p z last true first))
+      look whole signedWords local 0x2E main (view a b l t c (marked p z last true first))
       (λ x right carry status.
       steps local (run 0x2E ∷ run 0x32 ∷ run 0x31 ∷ []) tt right
       (record {
@@ -141,7 +142,7 @@ module _ (local main : List ℕ) (fits : length main ≤ 65536) (a b l t : ℕ) 
         known = bit-with (x .s) 3 false;
       }))
   seals true false =
-      look signedWords local 0x2D main (view a b l t c (marked p z last false first))
+      look whole signedWords local 0x2D main (view a b l t c (marked p z last false first))
       (λ x right carry status.
       steps local (run 0x2D ∷ run 0x30 ∷ run 0x31 ∷ []) tt right
       (record {
@@ -152,7 +153,7 @@ module _ (local main : List ℕ) (fits : length main ≤ 65536) (a b l t : ℕ) 
         known = bit-with (x .s) 3 true;
       }))
   seals true true =
-      look signedWords local 0x2D main (view a b l t c (marked p z last true first))
+      look whole signedWords local 0x2D main (view a b l t c (marked p z last true first))
       (λ x right carry status.
       steps local (run 0x2D ∷ run 0x32 ∷ run 0x31 ∷ []) tt right
       (record {
@@ -163,8 +164,8 @@ module _ (local main : List ℕ) (fits : length main ≤ 65536) (a b l t : ℕ) 
         known = bit-with (x .s) 3 true;
       }))
 
-pub stop-33 : (local main : List ℕ) (x : State) → Right signedWords (machine x main local) → Halts (basic signedWords) (machine (idle DONE x) main local)
-stop-33 local main x right = stop signedWords signedProgram (addresses signedProgram) own DONE tt (machine (idle DONE x) main local) right refl
+pub stop-33 : (local main : List ℕ) (x : State) → Right signedWords (machine x main local) → Halts (basic whole signedWords) (machine (idle DONE x) main local)
+stop-33 local main x right = stop whole signedWords signedProgram (addresses signedProgram) own DONE tt (machine (idle DONE x) main local) right refl
 
 -- ---- to complement again
 
@@ -173,10 +174,10 @@ module _ (local main : List ℕ) (a b l t : ℕ) (c p z last first : Bool) (smal
   again-marks : (s : ℕ) (u v minus on : Bool) → marks s ≡ marked p z last minus first → marks (withBit (withBit (withBit (withBit s 3 u) 6 on) 3 v) 7 false) ≡ marked p z last on false
   again-marks s u v minus on e = simp (saved, marks-6, marks-7, e)
 
-  pub again : (minus : Bool) → Block signedWords local 5 (at 0x2F main (view a b l t c (marked p z last minus first))) (at 0x21 main (view (a + 1) (a + 1) l (suc l) c (marked p z last (not minus) false)))
+  pub again : (minus : Bool) → Block whole signedWords local 5 (at 0x2F main (view a b l t c (marked p z last minus first))) (at 0x21 main (view (a + 1) (a + 1) l (suc l) c (marked p z last (not minus) false)))
   unfolding entered sumIn sumOf accessOf nextOf statusOf unmodelledOf marks
   again false =
-      look signedWords local 0x2F main (view a b l t c (marked p z last false first))
+      look whole signedWords local 0x2F main (view a b l t c (marked p z last false first))
       (λ x right carry status.
       let high : Sum = highSum (x .s) a 0 0 true in
       let low : Sum = lowSum a 0 true in
@@ -196,7 +197,7 @@ module _ (local main : List ℕ) (a b l t : ℕ) (c p z last first : Bool) (smal
         };
       }))
   again true =
-      look signedWords local 0x2F main (view a b l t c (marked p z last true first))
+      look whole signedWords local 0x2F main (view a b l t c (marked p z last true first))
       (λ x right carry status.
       let high : Sum = highSum (x .s) a 0 0 true in
       let low : Sum = lowSum a 0 true in

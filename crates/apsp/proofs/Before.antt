@@ -11,11 +11,12 @@ use lib.Seq.{set-getD}
 use Rattle.digits.specs.Bits.{bit}
 use Rattle.digits.specs.Digits.{high, low}
 use Rattle.digits.proofs.Table.{alike}
+use Rattle.storage.specs.Storage.{whole, accessOf}
+use Rattle.storage.proofs.Inside.{In}
 use Rattle.adder.specs.Gates.{crossed}
 use Rattle.adder.specs.Adder.{summed, resultOf, sumOf}
 use Rattle.machine.specs.Sources.{entered, sumIn}
 use Rattle.machine.specs.Branch.{nextOf}
-use Rattle.machine.specs.Storage.{accessOf}
 use Rattle.machine.specs.Status.{statusOf}
 use Rattle.codes.specs.Modelled.{unmodelledOf}
 use Rattle.run.proofs.Goes.{machine, Right}
@@ -29,7 +30,7 @@ use Rattle.apsp.proofs.Own.{steps}
 -- 00 and 01: T and L are the bytes before the last
 pub begins : (local main : List ℕ) (a b k : ℕ) (subtract : Bool) → Right signedWords (machine (signedStart a b (suc k) subtract) main local) → a < 65536 → b < 65536 → k < 255
     → (none : Bool) → eqb k 0 ≡ none
-    → Reaches signedWords local 2 (machine (signedStart a b (suc k) subtract) main local) (at (branch 0x02 none) main (view a b k k false (marked subtract false false false false)))
+    → Reaches whole signedWords local 2 (machine (signedStart a b (suc k) subtract) main local) (at (branch 0x02 none) main (view a b k k false (marked subtract false false false false)))
 unfolding entered sumIn sumOf accessOf nextOf statusOf unmodelledOf summed resultOf marks
 begins local main a b k subtract right ha hb small none e =
     steps local (run 0x00 ∷ run 0x01 ∷ []) tt right
@@ -73,11 +74,11 @@ high-none s = alike 16 (λ (d : ℕ). eqb (high (bitAnd d 8)) 0) (λ (d : ℕ). 
 
 module _ (local main : List ℕ) (fits : length main ≤ 65536) (a b l t : ℕ) (c : Bool) (m : Marks) where
   -- 03 and 11: the second field's last byte in R
-  pub second-read : b < length main → Block signedWords local 2 (at 0x03 main (view a b l t c m)) (atWith 0x15 main (view a (b + 1) l t c m) (inR (getD main b 0)))
+  pub second-read : In whole (length main) b → Block whole signedWords local 2 (at 0x03 main (view a b l t c m)) (atWith 0x15 main (view a (b + 1) l t c m) (inR (getD main b 0)))
   unfolding entered sumIn sumOf accessOf nextOf statusOf unmodelledOf
   second-read hb =
-      let in-b = within b (length main) hb fits in
-      look signedWords local 0x03 main (view a b l t c m)
+      let in-b = within whole b (length main) hb fits in
+      look whole signedWords local 0x03 main (view a b l t c m)
       (λ x right carry status.
       steps local (run 0x03 ∷ back 0x11 ∷ []) tt right
       (record {
@@ -85,16 +86,16 @@ module _ (local main : List ℕ) (fits : length main ≤ 65536) (a b l t : ℕ) 
         rests = refl;
         comes = refl;
         stores = refl;
-        known = (record { first = refl; second = up _ b; l = refl; t = refl; carry = carry; status = simp saved status }, ap (λ (k : ℕ). getD main k 0) (address b (length main) hb fits));
+        known = (record { first = refl; second = up _ b; l = refl; t = refl; carry = carry; status = simp saved status }, ap (λ (k : ℕ). getD main k 0) (address whole b (length main) hb fits));
       }))
 
   -- 20 and 17: the first field's; S6 off, S7 on
-  pub first-read : a < length main
-      → Block signedWords local 2 (at 0x20 main (view a b l t c m)) (atWith 0x15 main (view (a + 1) b l t c (marked (m .s0) (m .s2) (m .s4) false true)) (inR (getD main a 0)))
+  pub first-read : In whole (length main) a
+      → Block whole signedWords local 2 (at 0x20 main (view a b l t c m)) (atWith 0x15 main (view (a + 1) b l t c (marked (m .s0) (m .s2) (m .s4) false true)) (inR (getD main a 0)))
   unfolding entered sumIn sumOf accessOf nextOf statusOf unmodelledOf
   first-read ha =
-      let in-a = within a (length main) ha fits in
-      look signedWords local 0x20 main (view a b l t c m)
+      let in-a = within whole a (length main) ha fits in
+      look whole signedWords local 0x20 main (view a b l t c m)
       (λ x right carry status.
       steps local (run 0x20 ∷ back 0x17 ∷ []) tt right
       (record {
@@ -102,14 +103,14 @@ module _ (local main : List ℕ) (fits : length main ≤ 65536) (a b l t : ℕ) 
         rests = refl;
         comes = refl;
         stores = refl;
-        known = (record { first = up _ a; second = refl; l = refl; t = refl; carry = carry; status = simp (saved, marks-6, marks-7, status) }, ap (λ (k : ℕ). getD main k 0) (address a (length main) ha fits));
+        known = (record { first = up _ a; second = refl; l = refl; t = refl; carry = carry; status = simp (saved, marks-6, marks-7, status) }, ap (λ (k : ℕ). getD main k 0) (address whole a (length main) ha fits));
       }))
 
   -- 21: the first carry is S0, and S4 is on
-  pub readied : Block signedWords local 1 (at 0x21 main (view a b l t c m)) (at 0x0A main (view a b l t (m .s0) (mark 4 true m)))
+  pub readied : Block whole signedWords local 1 (at 0x21 main (view a b l t c m)) (at 0x0A main (view a b l t (m .s0) (mark 4 true m)))
   unfolding entered sumIn sumOf resultOf accessOf nextOf statusOf unmodelledOf marks
   readied =
-      look signedWords local 0x21 main (view a b l t c m)
+      look whole signedWords local 0x21 main (view a b l t c m)
       (λ x right carry status.
       steps local (run 0x21 ∷ []) tt right
       (record {

@@ -11,16 +11,17 @@ use Rattle.digits.specs.Digits.{low}
 use Rattle.digits.specs.Packed.{signOf, isMinus, preferred, signed, belowZero, sizeIn, signIn, signedBytes}
 use Rattle.digits.proofs.Packed.{size-signed, below-signed}
 use Rattle.digits.proofs.Truth.{true-not-false, both}
+use Rattle.storage.specs.Storage.{whole}
 use Rattle.machine.specs.Cycle.{Outcome, outcome}
 use Rattle.decimal.specs.Value.{decimalField}
-use Rattle.decimal.specs.Entry.{bound}
+use Rattle.decimal.specs.Entry.{addChecks, bound}
 use Rattle.decimal.specs.Promise.{untilBad, Bad}
 use Rattle.decimal.specs.declared.Added.{Added}
 use Rattle.decimal.specs.declared.Added.the-variants.{Summed}
 use Rattle.decimal.proofs.Places.{ended, Refuses}
-use Rattle.decimal.proofs.Checks.{Fit, checked}
+use Rattle.decimal.proofs.Checks.{Fit, no-bytes, accepted}
 use Rattle.decimal.proofs.Whole.{until-le}
-use Rattle.decimal.proofs.Kept.{Finishes, no-bytes, comes-to, stops-short, keeps}
+use Rattle.decimal.proofs.Kept.{Finishes, comes-to, stops-short, keeps}
 use Rattle.apsp.specs.Program.{signedWords}
 use Rattle.apsp.specs.Numbers.{places, field, number, lastByte, signedByte, goodField, exact}
 use Rattle.apsp.specs.Entry.{signedStart, signedRun, DONE, signedOf}
@@ -71,14 +72,14 @@ module _ (main : List ℕ) (a b m : ℕ) (subtract : Bool) (ha : a + suc m ≤ l
 
 -- ---- done
 
-module _ (main local : List ℕ) (a b m : ℕ) (subtract : Bool) (f : Fit (length main) (length local) a b (suc m)) where
+module _ (main local : List ℕ) (a b m : ℕ) (subtract : Bool) (f : Fit whole (length main) (length local) a b (suc m)) where
   -- an ending whose size and sign are the exact result's
   ends-so : (count size : ℕ) (minus : Bool) → count < bound (suc m) → exact main a b (suc m) subtract ≡ signed minus size → signedCycles main a b (suc m) subtract ≡ count
       → Ends main local a m (startAt main local a b subtract m) count size minus → Finishes DONE (signedRun main local a b (suc m) subtract) (suc m) (SignedSums main local a b (suc m) subtract)
   ends-so count size minus less ex ec e =
       let abs : size ≡ natAbs (exact main a b (suc m) subtract) = sym (ap natAbs ex ∙ size-signed minus size) in
       let below : some size && minus ≡ belowZero (exact main a b (suc m) subtract) = sym (ap belowZero ex ∙ below-signed minus size) in
-      comes-to signedWords main local (signedStart a b (suc m) subtract) (suc m) DONE count (right main local a b subtract m f) (f .few) less (ended DONE (e .left) (e .over)) refl (e .reaches) (stop-33 local (e .left))
+      comes-to whole signedWords main local (signedStart a b (suc m) subtract) (suc m) DONE count (right main local a b subtract m f) (f .few) less (ended DONE (e .left) (e .over)) refl (e .reaches) (stop-33 local (e .left))
       (SignedSums main local a b (suc m) subtract)
       (λ x on.
       record {
@@ -92,9 +93,9 @@ module _ (main local : List ℕ) (a b m : ℕ) (subtract : Bool) (f : Fit (lengt
   -- the exact result, by whether it is a difference
   true-exact : (p : Bool) → differenceAt main a b m subtract ≡ p → let x = sizeAt main a m in let y = sizeAt main b m in
       exact main a b (suc m) subtract ≡ signed (trueMinus p (minusAt main a m) x y) (trueSize p x y)
-  true-exact false e = exact-is main a b m subtract (f .in-a) (f .in-b) ∙ sum-exact (sizeAt main a m) (sizeAt main b m) (minusAt main a m) (turnedBy (minusAt main b m) subtract) e
+  true-exact false e = exact-is main a b m subtract (f .in-a .in-main) (f .in-b .in-main) ∙ sum-exact (sizeAt main a m) (sizeAt main b m) (minusAt main a m) (turnedBy (minusAt main b m) subtract) e
   true-exact true e =
-      exact-is main a b m subtract (f .in-a) (f .in-b) ∙ difference-exact (sizeAt main a m) (sizeAt main b m) (minusAt main a m) (turnedBy (minusAt main b m) subtract) e ∙ by (ltb (sizeAt main a m) (sizeAt main b m))
+      exact-is main a b m subtract (f .in-a .in-main) (f .in-b .in-main) ∙ difference-exact (sizeAt main a m) (sizeAt main b m) (minusAt main a m) (turnedBy (minusAt main b m) subtract) e ∙ by (ltb (sizeAt main a m) (sizeAt main b m))
     where
       by : (t : Bool) → let x = sizeAt main a m in let y = sizeAt main b m in let minus = minusAt main a m in
           cond t (signed (not minus) (y - x)) (signed minus (x - y)) ≡ signed (cond t (not minus) minus) (cond t (y - x) (x - y))
@@ -105,7 +106,7 @@ module _ (main local : List ℕ) (a b m : ℕ) (subtract : Bool) (f : Fit (lengt
   true-cycles p e =
       let again : 23 * suc m + 25 ≡ 23 * m + 48 = omega arith in
       let once : 14 * suc m + 16 ≡ 14 * m + 30 = omega arith in
-      cycles-are main a b m subtract (f .in-a) (f .in-b) ∙ (λ i. cond (e i && ltb (sizeAt main a m) (sizeAt main b m)) (again i) (once i))
+      cycles-are main a b m subtract (f .in-a .in-main) (f .in-b .in-main) ∙ (λ i. cond (e i && ltb (sizeAt main a m) (sizeAt main b m)) (again i) (once i))
 
   count-few : (t : Bool) → cond t (23 * m + 48) (14 * m + 30) < bound (suc m)
   count-few true = omega arith
@@ -132,13 +133,13 @@ module _ (main local : List ℕ) (a b m : ℕ) (subtract : Bool) (f : Fit (lengt
         let first : 5 * suc m + 1 ≡ 5 * m + 6 = omega arith in
         λ i. cond (decimalField main a (but-one m i) && decimalField main b (but-one m i)) (cond (signedByte (getD main (b + but-one m i) 0)) (last i) (first i)) (2 + untilBad main a b (but-one m i))
 
-    refusing : goodField main a (suc m) && goodField main b (suc m) ≡ false → Refuses signedWords local DONE (untilBadSigned main a b (suc m)) (startAt main local a b subtract m) main
+    refusing : goodField main a (suc m) && goodField main b (suc m) ≡ false → Refuses whole signedWords local DONE (untilBadSigned main a b (suc m)) (startAt main local a b subtract m) main
     refusing g =
-        subst (λ (n : ℕ). Refuses signedWords local DONE n (startAt main local a b subtract m) main) (sym until-is)
+        subst (λ (n : ℕ). Refuses whole signedWords local DONE n (startAt main local a b subtract m) main) (sym until-is)
         (by (decimalField main a m) (decimalField main b m) (signedByte (getD main (a + m) 0)) (signedByte (getD main (b + m) 0)) refl refl refl refl (sym (λ i. good-is main a m i && good-is main b m i) ∙ g))
       where
         by : (p q r t : Bool) → decimalField main a m ≡ p → decimalField main b m ≡ q → signedByte (getD main (a + m) 0) ≡ r → signedByte (getD main (b + m) 0) ≡ t → (p && r) && (q && t) ≡ false
-            → Refuses signedWords local DONE (cond (p && q) (cond t (5 * m + 12) (5 * m + 6)) (2 + untilBad main a b m)) (startAt main local a b subtract m) main
+            → Refuses whole signedWords local DONE (cond (p && q) (cond t (5 * m + 12) (5 * m + 6)) (2 + untilBad main a b m)) (startAt main local a b subtract m) main
         by true true r false e h k l g = second-bad main local a b m subtract f (bytes (a + m)) (bytes (b + m)) e h l
         by true true false true e h k l g = first-bad-sign main local a b m subtract f (bytes (a + m)) (bytes (b + m)) e h l k
         by true true true true e h k l g = absurd (true-not-false refl g)
@@ -155,7 +156,7 @@ module _ (main local : List ℕ) (a b m : ℕ) (subtract : Bool) (f : Fit (lengt
 
     bad-end : goodField main a (suc m) && goodField main b (suc m) ≡ false → Finishes DONE (signedRun main local a b (suc m) subtract) (suc m) (Bad (untilBadSigned main a b (suc m)) main local)
     bad-end g =
-        stops-short signedWords main local (signedStart a b (suc m) subtract) (suc m) DONE (untilBadSigned main a b (suc m)) (right main local a b subtract m f) (f .few) bad-few (refusing g)
+        stops-short whole signedWords main local (signedStart a b (suc m) subtract) (suc m) DONE (untilBadSigned main a b (suc m)) (right main local a b subtract m f) (f .few) bad-few (refusing g)
 
 -- ---- the entry
 
@@ -163,12 +164,13 @@ pub signed-kept : (main local : List ℕ) (a b n : ℕ) (subtract : Bool) → ((
     → let o = signedOf main local a b n subtract in SignedPromise main local a b n subtract (o .answer) (o .main) (o .local)
 unfolding signedOf
 signed-kept main local a b zero subtract bytes =
-    keeps DONE (signedRun main local a b 0 subtract) main local a b 0 (goodField main a 0 && goodField main b 0) (SignedSums main local a b 0 subtract) (Bad (untilBadSigned main a b 0) main local)
-    (λ e g. absurd (no-bytes main local a b e)) (λ e g. absurd (no-bytes main local a b e))
+    keeps DONE (addChecks whole (length main) (length local) a b 0) tt (signedRun main local a b 0 subtract) main local 0 (goodField main a 0 && goodField main b 0) (SignedSums main local a b 0 subtract)
+    (Bad (untilBadSigned main a b 0) main local)
+    (λ e g. absurd (no-bytes (accepted whole (length main) (length local) a b 0 e))) (λ e g. absurd (no-bytes (accepted whole (length main) (length local) a b 0 e)))
 signed-kept main local a b (suc m) subtract bytes =
-    keeps DONE (signedRun main local a b (suc m) subtract) main local a b (suc m) (goodField main a (suc m) && goodField main b (suc m)) (SignedSums main local a b (suc m) subtract)
-    (Bad (untilBadSigned main a b (suc m)) main local)
-    (λ e. sums-end main local a b m subtract (checked (length main) (length local) a b (suc m) e) bytes) (λ e. bad-end main local a b m subtract (checked (length main) (length local) a b (suc m) e) bytes)
+    keeps DONE (addChecks whole (length main) (length local) a b (suc m)) tt (signedRun main local a b (suc m) subtract) main local (suc m) (goodField main a (suc m) && goodField main b (suc m))
+    (SignedSums main local a b (suc m) subtract) (Bad (untilBadSigned main a b (suc m)) main local)
+    (λ e. sums-end main local a b m subtract (accepted whole (length main) (length local) a b (suc m) e) bytes) (λ e. bad-end main local a b m subtract (accepted whole (length main) (length local) a b (suc m) e) bytes)
 
 pub with-promise : (main local : List ℕ) (a b n : ℕ) (subtract : Bool) → ((i : ℕ) → getD main i 0 < 256) → (r : Added) (m l : List ℕ) → outcome r m l ≡ signedOf main local a b n subtract
     → (outcome r m l ≡ signedOf main local a b n subtract) × SignedPromise main local a b n subtract r m l

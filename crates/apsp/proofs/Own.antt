@@ -7,6 +7,7 @@ use lib.Count.{ones}
 use lib.Dec.{T, eqb}
 use Rattle.word.specs.Word.{packed, inWidth}
 use Rattle.digits.specs.Table.{among}
+use Rattle.storage.specs.Storage.{whole}
 use Rattle.machine.specs.Cycle.{stops}
 use Rattle.run.proofs.Goes.{Machine, Right}
 use Rattle.decimal.specs.Program.{program}
@@ -30,10 +31,10 @@ unfolding packed inWidth ones signedWords
 leads = has signedWords program leading tt
 
 module _ (local : List ℕ) where
-  pub steps : (ws : List Turn) → T (allGoing signedProgram (addresses signedProgram) ws) → {m : Machine} {q : Place} → Right signedWords m → Walks signedProgram local ws m q
-      → Reaches signedWords local (turns ws) m q
-  steps ws t right r = walks signedWords signedProgram (addresses signedProgram) own local ws t right r
+  pub steps : (ws : List Turn) → T (allGoing signedProgram (addresses signedProgram) ws) → {m : Machine} {q : Place} → Right signedWords m → Walks whole signedProgram local ws m q
+      → Reaches whole signedWords local (turns ws) m q
+  steps ws t right r = walks whole signedWords signedProgram (addresses signedProgram) own local ws t right r
 
   pub refuses : (wx : ℕ) → T (among wx (addresses signedProgram) && stops (fieldsAt signedProgram wx)) → eqb wx DONE ≡ false → {k : ℕ} {p : Place} (main : List ℕ)
-      → Block signedWords local k p (resting wx main) → Refusing signedWords local DONE k p main
-  refuses wx t e main b = refuse signedWords signedProgram (addresses signedProgram) own local DONE wx t e main b
+      → Block whole signedWords local k p (resting wx main) → Refusing whole signedWords local DONE k p main
+  refuses wx t e main b = refuse whole signedWords signedProgram (addresses signedProgram) own local DONE wx t e main b

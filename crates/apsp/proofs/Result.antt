@@ -13,11 +13,14 @@ use Rattle.digits.specs.Bits.{one}
 use Rattle.digits.specs.Digits.{high, low}
 use Rattle.digits.specs.Packed.{signOf, isNone, preferred, signedBytes}
 use Rattle.digits.proofs.Truth.{both}
+use Rattle.storage.specs.Storage.{whole}
+use Rattle.storage.proofs.Inside.{In}
 use Rattle.run.proofs.Goes.{Machine}
 use Rattle.decimal.specs.Value.{value, decimalField}
 use Rattle.decimal.proofs.Places.{marked, view, Place, at, ended, Reaches, Block, on, then, told, said}
 use Rattle.decimal.proofs.Checks.{Fit}
 use Rattle.decimal.proofs.Fields.{Sound, field-sound, value-lt, remainder}
+use Rattle.decimal.proofs.Pairs.{Lies, last-in}
 use Rattle.decimal.proofs.Pass2.{Fits, Passing}
 use Rattle.decimal.proofs.Stands.{Stands}
 use Rattle.decimal.proofs.Whole.{decimal-lt}
@@ -45,7 +48,7 @@ trueCount p x y m = cond (p && ltb x y) (23 * m + 48) (14 * m + 30)
 pub record Ends (main local : List ℕ) (a m : ℕ) (from : Machine) (count size : ℕ) (minus : Bool) : Type 0 where
   pub left : List ℕ
   pub over : Bool
-  pub reaches : Reaches signedWords local count from (ended DONE left over)
+  pub reaches : Reaches whole signedWords local count from (ended DONE left over)
   pub told : over ≡ leb (10 ^ (2 * m + 1)) size
   pub result : field left a (suc m) ≡ signedBytes (2 * m + 1) size (preferred (some size && minus))
   pub kept : length left ≡ length main
@@ -77,7 +80,7 @@ module _ (less : Bool) (a m x y : ℕ) (main main′ : List ℕ) (k : Bool) (st 
   -- the end of a pass, with the sign
   pub ends-with : (local main₀ : List ℕ) (from : Machine) (count size : ℕ) (over minus sign : Bool) → a + suc m ≤ length main′ → length main′ ≡ length main₀
       → ((j : ℕ) → (j < a) ⊎ (a + suc m ≤ j) → getD main′ j 0 ≡ getD main₀ j 0)
-      → Reaches signedWords local count from (ended DONE (set main′ (a + m) (signed-last (getD main′ (a + m) 0) sign)) over) → sign ≡ some size && minus → sizeAt main′ a m + limit m * one over ≡ size
+      → Reaches whole signedWords local count from (ended DONE (set main′ (a + m) (signed-last (getD main′ (a + m) 0) sign)) over) → sign ≡ some size && minus → sizeAt main′ a m + limit m * one over ≡ size
       → Ends main₀ local a m from count size minus
   ends-with local main₀ from count size over minus sign inside kept others reaches es ez =
       record {
@@ -101,7 +104,7 @@ module _ (less : Bool) (a m x y : ℕ) (main main′ : List ℕ) (k : Bool) (st 
 digit-fine : (byte : ℕ) → signedByte byte ≡ true → high byte ≤ 9
 digit-fine byte g = leb-true (high byte) 9 (both (leb (high byte) 9) (not (isNone (signOf (low byte)))) g .0)
 
-module _ (main local : List ℕ) (a b m : ℕ) (subtract : Bool) (f : Fit (length main) (length local) a b (suc m)) (byte-a : getD main (a + m) 0 < 256) (byte-b : getD main (b + m) 0 < 256)
+module _ (main local : List ℕ) (a b m : ℕ) (subtract : Bool) (f : Fit whole (length main) (length local) a b (suc m)) (byte-a : getD main (a + m) 0 < 256) (byte-b : getD main (b + m) 0 < 256)
     (da : decimalField main a m ≡ true) (db : decimalField main b m ≡ true) (gb : signedByte (getD main (b + m) 0) ≡ true) (ga : signedByte (getD main (a + m) 0) ≡ true) where
   abbrev from : Machine
   from = startAt main local a b subtract m
@@ -123,9 +126,9 @@ module _ (main local : List ℕ) (a b m : ℕ) (subtract : Bool) (f : Fit (lengt
     abbrev first-pass : Passing
     first-pass = begun local p true a b m false minus p main
 
-    ready : Reaches signedWords local (5 * m + 15) from (at 0x0A main (view (a + suc m) (b + suc m) m (suc m) p (marked p false true minus true)))
+    ready : Reaches whole signedWords local (5 * m + 15) from (at 0x0A main (view (a + suc m) (b + suc m) m (suc m) p (marked p false true minus true)))
     ready =
-        subst (λ (p : Bool). Reaches signedWords local (5 * m + 15) from (at 0x0A main (view (a + suc m) (b + suc m) m (suc m) p (marked p false true minus true)))) ep
+        subst (λ (p : Bool). Reaches whole signedWords local (5 * m + 15) from (at 0x0A main (view (a + suc m) (b + suc m) m (suc m) p (marked p false true minus true)))) ep
         (prepared main local a b m subtract f byte-a byte-b da db gb ga)
 
     byte-at : (i : ℕ) → i < suc m → (t : Bool) → eqb i m ≡ t → getD main (b + i) 0 < 256
@@ -138,14 +141,17 @@ module _ (main local : List ℕ) (a b m : ℕ) (subtract : Bool) (f : Fit (lengt
     passed : Stands p a (suc m) main (done p .main) (10 * x) (10 * y) p (done p .carry)
     passed = pass-stands local p true a b m false minus p main fits (field-sound main a m da) (field-sound main b m db) (digit-fine (getD main (a + m) 0) ga) (digit-fine (getD main (b + m) 0) gb)
 
+    lies : Lies whole (length (done p .main)) a (suc m)
+    lies = rw (passed .size) (f .in-a)
+
     inside : a + suc m ≤ length (done p .main)
-    inside = rw (passed .size) (f .in-a)
+    inside = lies .in-main
 
     most : length (done p .main) ≤ 65536
     most = rw (passed .size) (f .fits)
 
-    in-last : a + m < length (done p .main)
-    in-last = omega (arith, inside)
+    in-last : In whole (length (done p .main)) (a + m)
+    in-last = last-in lies
 
     abbrev other : Bool
     other = came local main a b m p true false minus p
@@ -160,20 +166,20 @@ module _ (main local : List ℕ) (a b m : ℕ) (subtract : Bool) (f : Fit (lengt
       abbrev there : Place
       there = at (ahead p k other true) (done p .main) (view (a + m) b m 0 k (marked p other false minus true))
 
-      arrives : Reaches signedWords local (14 * m + 27) from there
+      arrives : Reaches whole signedWords local (14 * m + 27) from there
       arrives =
           let e : 5 * m + 15 + (9 * m + 12) ≡ 14 * m + 27 = omega arith in
-          told signedWords local e refl
-          (on signedWords local (right main local a b subtract m f) ready (pass-leads local main a b m p true false minus p (omega (arith, f .few)) fits k ek))
+          told whole signedWords local e refl
+          (on whole signedWords local (right main local a b subtract m f) ready (pass-leads local main a b m p true false minus p (omega (arith, f .few)) fits k ek))
 
       -- the sign follows
-      ends-here : (size : ℕ) (over sign : Bool) → Block signedWords local 3 there (ended DONE (set (done p .main) (a + m) (signed-last (getD (done p .main) (a + m) 0) sign)) over)
+      ends-here : (size : ℕ) (over sign : Bool) → Block whole signedWords local 3 there (ended DONE (set (done p .main) (a + m) (signed-last (getD (done p .main) (a + m) 0) sign)) over)
           → sign ≡ some size && minus → sizeAt (done p .main) a m + limit m * one over ≡ size → Ends main local a m from (14 * m + 30) size minus
       ends-here size over sign seal es ez =
           let e : 14 * m + 27 + 3 ≡ 14 * m + 30 = omega arith in
           ends-with p a m x y main (done p .main) k stands-k local main from (14 * m + 30) size over minus sign inside (passed .size) (passed .others)
-          (told signedWords local e refl
-          (on signedWords local (right main local a b subtract m f) arrives seal)) es ez
+          (told whole signedWords local e refl
+          (on whole signedWords local (right main local a b subtract m f) arrives seal)) es ez
 
   -- a sum, and one that overflows
   sum-ends : (ep : differenceAt main a b m subtract ≡ false) (k : Bool) → done false .carry ≡ k → Ends main local a m from (14 * m + 30) (x + y) minus
@@ -217,8 +223,8 @@ module _ (main local : List ℕ) (a b m : ℕ) (subtract : Bool) (f : Fit (lengt
     fits-again =
         record {
           most = most true ep;
-          in-a = inside true ep;
-          in-b = inside true ep;
+          in-a = lies true ep;
+          in-b = lies true ep;
           clear = λ i j h k e. omega arith;
           bytes = λ i h. decimal-lt (getD main₂ (a + i) 0) (passed true ep .digits i h);
         }
@@ -241,19 +247,19 @@ module _ (main local : List ℕ) (a b m : ℕ) (subtract : Bool) (f : Fit (lengt
         by true ek e f h less = absurd (omega arith)
         by false ek e f h less = (omega arith, ek, omega arith)
 
-    goes-again : Reaches signedWords local (23 * m + 48) from (ended DONE (set (third .main) (a + m) (signed-last (getD (third .main) (a + m) 0) (not minus))) false)
+    goes-again : Reaches whole signedWords local (23 * m + 48) from (ended DONE (set (third .main) (a + m) (signed-last (getD (third .main) (a + m) 0) (not minus))) false)
     goes-again =
         let e : 14 * m + 27 + (5 + (1 + (9 * m + 12 + 3))) ≡ 23 * m + 48 = omega arith in
         let ea : a + m + 1 ≡ a + suc m = omega arith in
         let same-size = passed-again .size in
         let z : Bool = came local main₂ a a m true false (other true ep) (not minus) true in
-        told signedWords local e refl
-        (on signedWords local (right main local a b subtract m f) (arrives true ep false ek)
-        (then signedWords local (again local main₂ (a + m) b m 0 false true (other true ep) false true (omega (arith, f .few)) minus)
-        (then signedWords local
-        (said signedWords local refl (λ i. at 0x0A main₂ (view (ea i) (ea i) m (suc m) true (marked true (other true ep) true (not minus) false)))
+        told whole signedWords local e refl
+        (on whole signedWords local (right main local a b subtract m f) (arrives true ep false ek)
+        (then whole signedWords local (again local main₂ (a + m) b m 0 false true (other true ep) false true (omega (arith, f .few)) minus)
+        (then whole signedWords local
+        (said whole signedWords local refl (λ i. at 0x0A main₂ (view (ea i) (ea i) m (suc m) true (marked true (other true ep) true (not minus) false)))
         (readied local main₂ (most true ep) (a + m + 1) (a + m + 1) m (suc m) false (marked true (other true ep) false (not minus) false)))
-        (then signedWords local (pass-leads local main₂ a a m true false (other true ep) (not minus) true (omega (arith, f .few)) fits-again false (sizes .1))
+        (then whole signedWords local (pass-leads local main₂ a a m true false (other true ep) (not minus) true (omega (arith, f .few)) fits-again false (sizes .1))
         (seals local (third .main) (rw same-size (most true ep)) (a + m) a m 0 false true z false false (rw same-size (in-last true ep)) false (not minus))))))
 
     again-ends : (x < y) × Ends main local a m from (23 * m + 48) (y - x) (not minus)

@@ -11,12 +11,12 @@ use Rattle.digits.specs.Digits.{low, bothDecimal}
 use Rattle.digits.specs.Packed.{signOf, isMinus}
 use Rattle.digits.proofs.Table.{alike}
 use Rattle.digits.proofs.Truth.{true-not-false, both}
+use Rattle.storage.specs.Storage.{whole, accessOf}
 use Rattle.adder.specs.Gates.{crossed}
 use Rattle.adder.specs.Adder.{summed, resultOf, sumOf}
 use Rattle.adder.proofs.Laws.{arithmetic}
 use Rattle.machine.specs.Sources.{entered, sumIn}
 use Rattle.machine.specs.Branch.{nextOf}
-use Rattle.machine.specs.Storage.{accessOf}
 use Rattle.machine.specs.Status.{statusOf}
 use Rattle.codes.specs.Modelled.{unmodelledOf}
 use Rattle.machine.specs.declared.State.{State}
@@ -83,7 +83,7 @@ module _ (local main : List ℕ) (a b l t : ℕ) (c : Bool) (m : Marks) where
   -- to one of 1C to 1F, by G0 and G3: three words alike for plus, and one for minus
   module _ (x : State) (right : Right signedWords (machine x main local)) (carry : carries (x .h) ≡ c) (status : marks (x .s) ≡ m) (few : l < 255)
       (sign : carried (x .r) ≡ true) (digit : bothDecimal (turned (x .r)) ≡ true) where
-    by-sign : (p q : Bool) → bit (tested (x .r)) 0 ≡ p → bit (tested (x .r)) 3 ≡ q → Reaches signedWords local 4 (machine (showing (view a b l t c m) 0x15 x) main local) (after (not p && q))
+    by-sign : (p q : Bool) → bit (tested (x .r)) 0 ≡ p → bit (tested (x .r)) 3 ≡ q → Reaches whole signedWords local 4 (machine (showing (view a b l t c m) 0x15 x) main local) (after (not p && q))
     unfolding entered sumIn sumOf accessOf nextOf statusOf unmodelledOf marks
     by-sign false false e f =
         steps local (run 0x15 ∷ run 0x16 ∷ run 0x1B ∷ run 0x1C ∷ []) tt right
@@ -127,32 +127,32 @@ module _ (local main : List ℕ) (a b l t : ℕ) (c : Bool) (m : Marks) where
     here = atWith 0x15 main (view a b l t c m) (inR byte)
 
     -- a digit and a sign: on to 20, or to 21 where S7 is on
-    pub good-sign : l < 255 → signedByte byte ≡ true → Block signedWords local 4 here (after (isMinus (signOf (low byte))))
+    pub good-sign : l < 255 → signedByte byte ≡ true → Block whole signedWords local 4 here (after (isMinus (signOf (low byte))))
     good-sign few good =
-        look-with signedWords local 0x15 main (view a b l t c m) (inR byte)
+        look-with whole signedWords local 0x15 main (view a b l t c m) (inR byte)
         (λ x right carry status r.
         let is : signedByte (x .r) ≡ true = ap signedByte r ∙ good in
         let less : x .r < 256 = rw r small in
         let (sign, digit) = both (carried (x .r)) (bothDecimal (turned (x .r))) (good-is (x .r) less ∙ is) in
         let minus : not (bit (tested (x .r)) 0) && bit (tested (x .r)) 3 ≡ isMinus (signOf (low (x .r))) = rw is at (minus-is (x .r) less) in
-        subst (λ (on : Bool). Reaches signedWords local 4 (machine (showing (view a b l t c m) 0x15 x) main local) (after on)) (minus ∙ ap (λ (n : ℕ). isMinus (signOf (low n))) r)
+        subst (λ (on : Bool). Reaches whole signedWords local 4 (machine (showing (view a b l t c m) 0x15 x) main local) (after on)) (minus ∙ ap (λ (n : ℕ). isMinus (signOf (low n))) r)
         (by-sign x right carry status few sign digit (bit (tested (x .r)) 0) (bit (tested (x .r)) 3) refl refl))
 
     -- a bad one: a stop at 18, 19 or 1A
     to-stop : (p q : Bool) → p && q ≡ false → (wx : ℕ) → fork 0x18 p q ≡ wx
-        → Block signedWords local 2 (atWith 0x15 main (view a b l t c m) (λ (d : ℕ) (r : ℕ). (carried r ≡ p) × (bothDecimal (turned r) ≡ q))) (resting wx main)
+        → Block whole signedWords local 2 (atWith 0x15 main (view a b l t c m) (λ (d : ℕ) (r : ℕ). (carried r ≡ p) × (bothDecimal (turned r) ≡ q))) (resting wx main)
     unfolding entered sumIn sumOf accessOf nextOf statusOf unmodelledOf marks
     to-stop p q bad wx e =
-        look-with signedWords local 0x15 main (view a b l t c m) (λ (d : ℕ) (r : ℕ). (carried r ≡ p) × (bothDecimal (turned r) ≡ q))
+        look-with whole signedWords local 0x15 main (view a b l t c m) (λ (d : ℕ) (r : ℕ). (carried r ≡ p) × (bothDecimal (turned r) ≡ q))
         (λ x right carry status tests.
         steps local (run 0x15 ∷ run 0x16 ∷ []) tt right
         (record { way = ((refl, refl), ((refl, refl), tt)); rests = refl; comes = (λ i. fork 0x18 (tests .0 i) (tests .1 i)) ∙ e; stores = refl; known = tt }))
 
-    pub bad-sign : signedByte byte ≡ false → Refusing signedWords local DONE 2 here main
+    pub bad-sign : signedByte byte ≡ false → Refusing whole signedWords local DONE 2 here main
     bad-sign bad x right (known, r) = by (carried (x .r)) (bothDecimal (turned (x .r))) refl refl (good-is (x .r) (rw r small) ∙ ap signedByte r ∙ bad)
       where
         by : (p q : Bool) → carried (x .r) ≡ p → bothDecimal (turned (x .r)) ≡ q → carried (x .r) && bothDecimal (turned (x .r)) ≡ false
-            → Refuses signedWords local DONE 2 (machine (idle 0x15 x) main local) main
+            → Refuses whole signedWords local DONE 2 (machine (idle 0x15 x) main local) main
         by false false e f k = refuses local 0x18 tt refl main (to-stop false false refl 0x18 refl) x right (known, (e, f))
         by false true e f k = refuses local 0x19 tt refl main (to-stop false true refl 0x19 refl) x right (known, (e, f))
         by true false e f k = refuses local 0x1A tt refl main (to-stop true false refl 0x1A refl) x right (known, (e, f))

@@ -9,12 +9,13 @@ use lib.ListN.{length, getD, set}
 use Rattle.digits.specs.Bits.{one, bit, withBit}
 use Rattle.digits.specs.Digits.{high}
 use Rattle.digits.proofs.Bits.{bit-with}
+use Rattle.storage.specs.Storage.{whole, accessOf}
+use Rattle.storage.proofs.Inside.{In}
 use Rattle.adder.specs.Adder.{sumOf, entering}
 use Rattle.adder.proofs.Laws.{arithmetic}
 use Rattle.adder.specs.declared.Sum.{Sum}
 use Rattle.machine.specs.Sources.{entered, sumIn}
 use Rattle.machine.specs.Branch.{nextOf}
-use Rattle.machine.specs.Storage.{accessOf}
 use Rattle.machine.specs.Status.{statusOf}
 use Rattle.codes.specs.Modelled.{unmodelledOf}
 use Rattle.machine.specs.declared.State.{State}
@@ -57,7 +58,7 @@ some-marks s r = by (eqb r 0)
     by true = λ i. marked (marks s .s0) (off (marks s .s2) i) (marks s .s4) (marks s .s6) (marks s .s7)
     by false = marks-2 s true ∙ (λ i. marked (marks s .s0) (on (marks s .s2) i) (marks s .s4) (marks s .s6) (marks s .s7))
 
-module _ (local main : List ℕ) (fits : length main ≤ 65536) (a b l k y : ℕ) (c : Bool) (ha : a < length main) (small : k < 255) (none : Bool) (e : eqb k 0 ≡ none) (p z minus : Bool) where
+module _ (local main : List ℕ) (fits : length main ≤ 65536) (a b l k y : ℕ) (c : Bool) (ha : In whole (length main) a) (small : k < 255) (none : Bool) (e : eqb k 0 ≡ none) (p z minus : Bool) where
   module _ (x : State) (right : Right signedWords (machine x main local)) (carry : carries (x .h) ≡ c) (d : x .d ≡ y) (last first : Bool) (status : marks (x .s) ≡ marked p z last minus first) where
     abbrev m : Marks
     m = marked p z last minus first
@@ -76,7 +77,7 @@ module _ (local main : List ℕ) (fits : length main ≤ 65536) (a b l k y : ℕ
     sum-is : its-sum ≡ signedSum m (getD main a 0) y c
     unfolding marks
     sum-is =
-        let place = address a (length main) ha fits in
+        let place = address whole a (length main) ha fits in
         let s0 : bit s-10 0 ≡ p = ap (λ (m : Marks). m .s0) marks-10 in
         let s3 : bit s-10 3 ≡ c = bit-with _ 3 (arithmetic false (x .h) 255 0 .ac) ∙ carry in
         λ i. arithmetic true (cond first (digitsOf last (getD main (place i) 0)) 0) (entering true (s0 i) (digitsOf last (d i))) (one (s3 i))
@@ -91,18 +92,18 @@ module _ (local main : List ℕ) (fits : length main ≤ 65536) (a b l k y : ℕ
     to-sum = λ i. fork 0x24 (status i .s4) (status i .s7)
 
   pub by-marks : (last first : Bool) → let m = marked p z last minus first in let s = signedSum m (getD main a 0) y c in
-      Block signedWords local 4 (atWith 0x10 main (view a b l (suc k) c m) (inD y)) (at (branch 0x0A none) (set main a (s .result)) (view a b l k (s .ac) (nextMarks m (s .result))))
+      Block whole signedWords local 4 (atWith 0x10 main (view a b l (suc k) c m) (inD y)) (at (branch 0x0A none) (set main a (s .result)) (view a b l k (s .ac) (nextMarks m (s .result))))
   unfolding entered sumIn sumOf accessOf nextOf statusOf unmodelledOf
   by-marks false false =
-      let in-a = within a (length main) ha fits in
-      look-with signedWords local 0x10 main (view a b l (suc k) c (marked p z false minus false)) (inD y)
+      let in-a = within whole a (length main) ha fits in
+      look-with whole signedWords local 0x10 main (view a b l (suc k) c (marked p z false minus false)) (inD y)
       (λ x right carry status d.
       steps local (run 0x10 ∷ run 0x24 ∷ run 0x12 ∷ run 0x13 ∷ []) tt right
       (record {
         way = ((refl, in-a), ((to-sum x right carry d false false status, refl), ((refl, in-a), ((refl, refl), tt))));
         rests = refl;
         comes = ap (branch 0x0A) (none-left k small ∙ e);
-        stores = λ i. set main (address a (length main) ha fits i) (sum-is x right carry d false false status i .result);
+        stores = λ i. set main (address whole a (length main) ha fits i) (sum-is x right carry d false false status i .result);
         known = record {
           first = refl;
           second = refl;
@@ -113,15 +114,15 @@ module _ (local main : List ℕ) (fits : length main ≤ 65536) (a b l k y : ℕ
         };
       }))
   by-marks false true =
-      let in-a = within a (length main) ha fits in
-      look-with signedWords local 0x10 main (view a b l (suc k) c (marked p z false minus true)) (inD y)
+      let in-a = within whole a (length main) ha fits in
+      look-with whole signedWords local 0x10 main (view a b l (suc k) c (marked p z false minus true)) (inD y)
       (λ x right carry status d.
       steps local (run 0x10 ∷ run 0x25 ∷ run 0x12 ∷ run 0x13 ∷ []) tt right
       (record {
         way = ((refl, in-a), ((to-sum x right carry d false true status, refl), ((refl, in-a), ((refl, refl), tt))));
         rests = refl;
         comes = ap (branch 0x0A) (none-left k small ∙ e);
-        stores = λ i. set main (address a (length main) ha fits i) (sum-is x right carry d false true status i .result);
+        stores = λ i. set main (address whole a (length main) ha fits i) (sum-is x right carry d false true status i .result);
         known = record {
           first = refl;
           second = refl;
@@ -132,15 +133,15 @@ module _ (local main : List ℕ) (fits : length main ≤ 65536) (a b l k y : ℕ
         };
       }))
   by-marks true false =
-      let in-a = within a (length main) ha fits in
-      look-with signedWords local 0x10 main (view a b l (suc k) c (marked p z true minus false)) (inD y)
+      let in-a = within whole a (length main) ha fits in
+      look-with whole signedWords local 0x10 main (view a b l (suc k) c (marked p z true minus false)) (inD y)
       (λ x right carry status d.
       steps local (run 0x10 ∷ run 0x26 ∷ run 0x12 ∷ run 0x13 ∷ []) tt right
       (record {
         way = ((refl, in-a), ((to-sum x right carry d true false status, refl), ((refl, in-a), ((refl, refl), tt))));
         rests = refl;
         comes = ap (branch 0x0A) (none-left k small ∙ e);
-        stores = λ i. set main (address a (length main) ha fits i) (sum-is x right carry d true false status i .result);
+        stores = λ i. set main (address whole a (length main) ha fits i) (sum-is x right carry d true false status i .result);
         known = record {
           first = refl;
           second = refl;
@@ -151,15 +152,15 @@ module _ (local main : List ℕ) (fits : length main ≤ 65536) (a b l k y : ℕ
         };
       }))
   by-marks true true =
-      let in-a = within a (length main) ha fits in
-      look-with signedWords local 0x10 main (view a b l (suc k) c (marked p z true minus true)) (inD y)
+      let in-a = within whole a (length main) ha fits in
+      look-with whole signedWords local 0x10 main (view a b l (suc k) c (marked p z true minus true)) (inD y)
       (λ x right carry status d.
       steps local (run 0x10 ∷ run 0x27 ∷ run 0x12 ∷ run 0x13 ∷ []) tt right
       (record {
         way = ((refl, in-a), ((to-sum x right carry d true true status, refl), ((refl, in-a), ((refl, refl), tt))));
         rests = refl;
         comes = ap (branch 0x0A) (none-left k small ∙ e);
-        stores = λ i. set main (address a (length main) ha fits i) (sum-is x right carry d true true status i .result);
+        stores = λ i. set main (address whole a (length main) ha fits i) (sum-is x right carry d true true status i .result);
         known = record {
           first = refl;
           second = refl;
@@ -170,7 +171,7 @@ module _ (local main : List ℕ) (fits : length main ≤ 65536) (a b l k y : ℕ
         };
       }))
 
-unfoldable pub signing : (local : List ℕ) → Summing signedWords local
+unfoldable pub signing : (local : List ℕ) → Summing whole signedWords local
 signing local =
     record {
       sum = signedSum;

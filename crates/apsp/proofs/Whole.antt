@@ -10,12 +10,14 @@ use lib.ListN.{length, getD, set}
 use Rattle.digits.specs.Digits.{low}
 use Rattle.digits.specs.Packed.{signOf, isMinus}
 use Rattle.digits.proofs.Truth.{zero-one}
+use Rattle.storage.specs.Storage.{whole}
+use Rattle.storage.proofs.Inside.{In}
 use Rattle.run.proofs.Goes.{Machine, machine, Right}
 use Rattle.decimal.specs.Value.{value, decimalField}
 use Rattle.decimal.specs.Promise.{untilBad}
 use Rattle.decimal.proofs.Places.{branch, fork, Marks, marked, view, at, atWith, inR, ended, Reaches, Block, Refuses, on, then, told, said, on-refuses}
 use Rattle.decimal.proofs.Checks.{Fit}
-use Rattle.decimal.proofs.Pairs.{some-left}
+use Rattle.decimal.proofs.Pairs.{last-in, front-lies, some-left}
 use Rattle.decimal.proofs.Pass1.{good, bad}
 use Rattle.decimal.proofs.Pass2.{Fits, Passing, all}
 use Rattle.apsp.specs.Program.{signedWords}
@@ -39,29 +41,29 @@ module _ (main local : List ℕ) (a b : ℕ) (subtract : Bool) where
   m₀ = marked subtract false false false false
 
   abbrev Ready : ℕ → Type 0
-  Ready m = Fit (length main) (length local) a b (suc m)
+  Ready m = Fit whole (length main) (length local) a b (suc m)
 
   pub right : (m : ℕ) → Ready m → Right signedWords (startAt m)
   unfolding signedWords
   right m f = f .sizes
 
-  begun-at : (m : ℕ) → Ready m → (none : Bool) → eqb m 0 ≡ none → Reaches signedWords local 2 (startAt m) (at (branch 0x02 none) main (view a b m m false m₀))
-  begun-at m f = begins local main a b m subtract (right m f) (omega (arith, f .in-a, f .fits)) (omega (arith, f .in-b, f .fits)) (omega (arith, f .few))
+  begun-at : (m : ℕ) → Ready m → (none : Bool) → eqb m 0 ≡ none → Reaches whole signedWords local 2 (startAt m) (at (branch 0x02 none) main (view a b m m false m₀))
+  begun-at m f = begins local main a b m subtract (right m f) (omega (arith, f .in-a .in-main, f .fits)) (omega (arith, f .in-b .in-main, f .fits)) (omega (arith, f .few))
 
-  tested : (m : ℕ) → Ready m → decimalField main a m ≡ true → decimalField main b m ≡ true → Reaches signedWords local (5 * m + 2) (startAt m) (at 0x03 main (view (a + m) (b + m) m 0 false m₀))
+  tested : (m : ℕ) → Ready m → decimalField main a m ≡ true → decimalField main b m ≡ true → Reaches whole signedWords local (5 * m + 2) (startAt m) (at 0x03 main (view (a + m) (b + m) m 0 false m₀))
   tested zero f da db =
-      told signedWords local refl (λ i. at 0x03 main (view (sym (add-zero a) i) (sym (add-zero b) i) 0 0 false m₀)) (begun-at 0 f true refl)
+      told whole signedWords local refl (λ i. at 0x03 main (view (sym (add-zero a) i) (sym (add-zero b) i) 0 0 false m₀)) (begun-at 0 f true refl)
   tested (suc k) f da db =
       let e : 2 + suc k * 5 ≡ 5 * suc k + 2 = omega arith in
-      told signedWords local e refl
-      (on signedWords local (right (suc k) f) (begun-at (suc k) f false (some-left k))
-      (good signedWords local tests main (f .fits) (suc k) false m₀ k a b (omega (arith, f .few)) (omega (arith, f .in-a)) (omega (arith, f .in-b)) db da))
+      told whole signedWords local e refl
+      (on whole signedWords local (right (suc k) f) (begun-at (suc k) f false (some-left k))
+      (good whole signedWords local tests main (f .fits) (suc k) false m₀ k a b (omega (arith, f .few)) (front-lies (f .in-a)) (front-lies (f .in-b)) db da))
 
-  pub first-bad : (m : ℕ) → Ready m → decimalField main a m && decimalField main b m ≡ false → Refuses signedWords local DONE (2 + untilBad main a b m) (startAt m) main
+  pub first-bad : (m : ℕ) → Ready m → decimalField main a m && decimalField main b m ≡ false → Refuses whole signedWords local DONE (2 + untilBad main a b m) (startAt m) main
   first-bad zero f d = absurd (zero-one cc)
   first-bad (suc k) f d =
-      on-refuses signedWords local (right (suc k) f) (begun-at (suc k) f false (some-left k))
-      (bad signedWords local tests main (f .fits) (suc k) false m₀ DONE refl refl k a b (omega (arith, f .few)) (omega (arith, f .in-a)) (omega (arith, f .in-b)) d)
+      on-refuses whole signedWords local (right (suc k) f) (begun-at (suc k) f false (some-left k))
+      (bad whole signedWords local tests main (f .fits) (suc k) false m₀ DONE refl refl k a b (omega (arith, f .few)) (front-lies (f .in-a)) (front-lies (f .in-b)) d)
 
 -- ---- the last bytes and their signs
 
@@ -75,7 +77,7 @@ as-is : (b : Bool) → cond b true false ≡ b
 as-is true = refl
 as-is false = refl
 
-module _ (main local : List ℕ) (a b m : ℕ) (subtract : Bool) (f : Fit (length main) (length local) a b (suc m)) (byte-a : getD main (a + m) 0 < 256) (byte-b : getD main (b + m) 0 < 256)
+module _ (main local : List ℕ) (a b m : ℕ) (subtract : Bool) (f : Fit whole (length main) (length local) a b (suc m)) (byte-a : getD main (a + m) 0 < 256) (byte-b : getD main (b + m) 0 < 256)
     (da : decimalField main a m ≡ true) (db : decimalField main b m ≡ true) where
   abbrev from : Machine
   from = startAt main local a b subtract m
@@ -83,45 +85,45 @@ module _ (main local : List ℕ) (a b m : ℕ) (subtract : Bool) (f : Fit (lengt
   abbrev here : Right signedWords from
   here = right main local a b subtract m f
 
-  to-second : Reaches signedWords local (5 * m + 2 + 2) from (atWith 0x15 main (view (a + m) (b + m + 1) m 0 false (m₀ main local a b subtract)) (inR (getD main (b + m) 0)))
-  to-second = on signedWords local here (tested main local a b subtract m f da db) (second-read local main (f .fits) (a + m) (b + m) m 0 false (m₀ main local a b subtract) (omega (arith, f .in-b)))
+  to-second : Reaches whole signedWords local (5 * m + 2 + 2) from (atWith 0x15 main (view (a + m) (b + m + 1) m 0 false (m₀ main local a b subtract)) (inR (getD main (b + m) 0)))
+  to-second = on whole signedWords local here (tested main local a b subtract m f da db) (second-read local main (f .fits) (a + m) (b + m) m 0 false (m₀ main local a b subtract) (last-in (f .in-b)))
 
-  pub second-bad : signedByte (getD main (b + m) 0) ≡ false → Refuses signedWords local DONE (5 * m + 6) from main
+  pub second-bad : signedByte (getD main (b + m) 0) ≡ false → Refuses whole signedWords local DONE (5 * m + 6) from main
   second-bad d =
       let e : 5 * m + 2 + 2 + 2 ≡ 5 * m + 6 = omega arith in
-      subst (λ (n : ℕ). Refuses signedWords local DONE n from main) e
-      (on-refuses signedWords local here to-second (bad-sign local main (a + m) (b + m + 1) m 0 false (m₀ main local a b subtract) (getD main (b + m) 0) byte-b d))
+      subst (λ (n : ℕ). Refuses whole signedWords local DONE n from main) e
+      (on-refuses whole signedWords local here to-second (bad-sign local main (a + m) (b + m + 1) m 0 false (m₀ main local a b subtract) (getD main (b + m) 0) byte-b d))
 
   module _ (gb : signedByte (getD main (b + m) 0) ≡ true) where
     -- what the second sign makes of S, and then 20 and 17
     abbrev m₁ : Marks
     m₁ = marked (turnedBy (minusAt main b m) subtract) false false false true
 
-    to-first : Reaches signedWords local (5 * m + 2 + 2 + (4 + 2)) from (atWith 0x15 main (view (a + m + 1) (b + m + 1) m (suc m) false m₁) (inR (getD main (a + m) 0)))
+    to-first : Reaches whole signedWords local (5 * m + 2 + 2 + (4 + 2)) from (atWith 0x15 main (view (a + m + 1) (b + m + 1) m (suc m) false m₁) (inR (getD main (a + m) 0)))
     to-first =
-        on signedWords local here to-second
-        (then signedWords local (good-sign local main (a + m) (b + m + 1) m 0 false (m₀ main local a b subtract) (getD main (b + m) 0) byte-b (omega (arith, f .few)) gb)
-        (first-read local main (f .fits) (a + m) (b + m + 1) m (suc m) false (turnedMarks (minusAt main b m) (m₀ main local a b subtract)) (omega (arith, f .in-a))))
+        on whole signedWords local here to-second
+        (then whole signedWords local (good-sign local main (a + m) (b + m + 1) m 0 false (m₀ main local a b subtract) (getD main (b + m) 0) byte-b (omega (arith, f .few)) gb)
+        (first-read local main (f .fits) (a + m) (b + m + 1) m (suc m) false (turnedMarks (minusAt main b m) (m₀ main local a b subtract)) (last-in (f .in-a))))
 
-    pub first-bad-sign : signedByte (getD main (a + m) 0) ≡ false → Refuses signedWords local DONE (5 * m + 12) from main
+    pub first-bad-sign : signedByte (getD main (a + m) 0) ≡ false → Refuses whole signedWords local DONE (5 * m + 12) from main
     first-bad-sign d =
         let e : 5 * m + 2 + 2 + (4 + 2) + 2 ≡ 5 * m + 12 = omega arith in
-        subst (λ (n : ℕ). Refuses signedWords local DONE n from main) e
-        (on-refuses signedWords local here to-first (bad-sign local main (a + m + 1) (b + m + 1) m (suc m) false m₁ (getD main (a + m) 0) byte-a d))
+        subst (λ (n : ℕ). Refuses whole signedWords local DONE n from main) e
+        (on-refuses whole signedWords local here to-first (bad-sign local main (a + m + 1) (b + m + 1) m (suc m) false m₁ (getD main (a + m) 0) byte-a d))
 
     module _ (ga : signedByte (getD main (a + m) 0) ≡ true) where
       abbrev difference : Bool
       difference = differenceAt main a b m subtract
 
       -- ready to sum
-      pub prepared : Reaches signedWords local (5 * m + 15) from (at 0x0A main (view (a + suc m) (b + suc m) m (suc m) difference (marked difference false true (minusAt main a m) true)))
+      pub prepared : Reaches whole signedWords local (5 * m + 15) from (at 0x0A main (view (a + suc m) (b + suc m) m (suc m) difference (marked difference false true (minusAt main a m) true)))
       prepared =
           let e : 5 * m + 2 + 2 + (4 + 2) + (4 + 1) ≡ 5 * m + 15 = omega arith in
           let ea : a + m + 1 ≡ a + suc m = omega arith in
           let eb : b + m + 1 ≡ b + suc m = omega arith in
-          told signedWords local e (λ i. at 0x0A main (view (ea i) (eb i) m (suc m) difference (marked difference false true (as-is (minusAt main a m) i) true)))
-          (on signedWords local here to-first
-          (then signedWords local (good-sign local main (a + m + 1) (b + m + 1) m (suc m) false m₁ (getD main (a + m) 0) byte-a (omega (arith, f .few)) ga)
+          told whole signedWords local e (λ i. at 0x0A main (view (ea i) (eb i) m (suc m) difference (marked difference false true (as-is (minusAt main a m) i) true)))
+          (on whole signedWords local here to-first
+          (then whole signedWords local (good-sign local main (a + m + 1) (b + m + 1) m (suc m) false m₁ (getD main (a + m) 0) byte-a (omega (arith, f .few)) ga)
           (readied local main (f .fits) (a + m + 1) (b + m + 1) m (suc m) false (turnedMarks (minusAt main a m) m₁))))
 
 -- ---- a pass that sums, and where it leads
@@ -135,18 +137,18 @@ module _ (local main : List ℕ) (a b m : ℕ) (less first z minus c : Bool) whe
   came = z || some (value (end .main) a (suc m))
 
   pub pass-leads : m < 255 → Fits (signing local) a b (suc m) (begun local less first a b m z minus c main) → (k : Bool) → end .carry ≡ k
-      → Block signedWords local (9 * m + 12) (at 0x0A main (view (a + suc m) (b + suc m) m (suc m) c (marked less z true minus first)))
+      → Block whole signedWords local (9 * m + 12) (at 0x0A main (view (a + suc m) (b + suc m) m (suc m) c (marked less z true minus first)))
       (at (ahead less k came first) (end .main) (view (a + m) b m 0 k (marked less came false minus first)))
   pass-leads small f k e =
       let n : suc m * 9 + 3 ≡ 9 * m + 12 = omega arith in
-      said signedWords local n (λ i. at (ahead less (e i) came first) (end .main) (view (a + m) b m 0 (e i) (marked less came false minus first)))
-      (then signedWords local
-      (said signedWords local refl (λ i. at 0x0B (end .main) (view a b m 0 (end .carry) (pass-marks local a b m (begun local less first a b m z minus c main) (f .in-a) i)))
+      said whole signedWords local n (λ i. at (ahead less (e i) came first) (end .main) (view (a + m) b m 0 (e i) (marked less came false minus first)))
+      (then whole signedWords local
+      (said whole signedWords local refl (λ i. at 0x0B (end .main) (view a b m 0 (end .carry) (pass-marks local a b m (begun local less first a b m z minus c main) (f .in-a .in-main) i)))
       (all (signing local) a b m m (begun local less first a b m z minus c main) small f))
       (three local (end .main) a b m 0 came false minus first (omega arith) less (end .carry)))
 
 -- zero is plus, any other number has its sign
-module _ (local main : List ℕ) (fits : length main ≤ 65536) (a b l t : ℕ) (c p last first minus : Bool) (ha : a < length main) where
-  pub seals-by : (z : Bool) → Block signedWords local 3 (at (fork 0x2C z false) main (view a b l t c (marked p z last minus first))) (ended DONE (set main a (signed-last (getD main a 0) (z && minus))) false)
+module _ (local main : List ℕ) (fits : length main ≤ 65536) (a b l t : ℕ) (c p last first minus : Bool) (ha : In whole (length main) a) where
+  pub seals-by : (z : Bool) → Block whole signedWords local 3 (at (fork 0x2C z false) main (view a b l t c (marked p z last minus first))) (ended DONE (set main a (signed-last (getD main a 0) (z && minus))) false)
   seals-by true = seals local main fits a b l t c p true last first ha false minus
   seals-by false = seals-zero local main fits a b l t c p false last first ha minus

@@ -6,6 +6,7 @@ use Rattle.digits.specs.Bits.{withBit}
 use Rattle.machine.specs.Cycle.{Outcome}
 use Rattle.machine.specs.declared.State.{State}
 use Rattle.codes.specs.declared.Reading.the-variants.{Basic}
+use Rattle.storage.specs.Storage.{whole}
 use Rattle.run.specs.Run.{runOf}
 use Rattle.run.specs.declared.Finished.{Finished}
 use Rattle.decimal.specs.Entry.{startWith, bound, entryOf}
@@ -25,4 +26,4 @@ DONE = 0x33
 
 -- "Refusals 12 to 14 apply as before"
 unfoldable pub signedOf : List ℕ → List ℕ → ℕ → ℕ → ℕ → Bool → Outcome Added
-signedOf main local a b n subtract = entryOf DONE (signedRun main local a b n subtract) main local a b n
+signedOf main local a b n subtract = entryOf DONE whole (signedRun main local a b n subtract) main local a b n

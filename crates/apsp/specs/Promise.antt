@@ -8,7 +8,9 @@ use lib.Dec.{ltb}
 use lib.ListN.{length, getD}
 use Rattle.digits.specs.Digits.{low}
 use Rattle.digits.specs.Packed.{signOf, isMinus, sizeIn}
+use Rattle.storage.specs.Storage.{whole}
 use Rattle.decimal.specs.Value.{decimalField}
+use Rattle.decimal.specs.Entry.{addChecks}
 use Rattle.decimal.specs.Promise.{untilBad, Bad, Keeps}
 use Rattle.decimal.specs.declared.Added.{Added}
 use Rattle.decimal.specs.declared.Added.the-variants.{Summed}
@@ -54,4 +56,4 @@ untilBadSigned main a b n =
 -- "Bad digits or signs end at the program's other stop with all storage as before"
 abbrev pub SignedPromise : List ℕ → List ℕ → ℕ → ℕ → ℕ → Bool → Added → List ℕ → List ℕ → Type 0
 SignedPromise main local a b n subtract r main′ local′ =
-    Keeps (signedRun main local a b n subtract) (goodField main a n && goodField main b n) (SignedSums main local a b n subtract) (Bad (untilBadSigned main a b n) main local) main local a b n r main′ local′
+    Keeps (addChecks whole (length main) (length local) a b n) (signedRun main local a b n subtract) (goodField main a n && goodField main b n) (SignedSums main local a b n subtract) (Bad (untilBadSigned main a b n) main local) main local n r main′ local′

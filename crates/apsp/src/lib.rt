@@ -6,6 +6,7 @@ ghost use Rattle.apsp.specs.Entry.{signedStart, signedOf};
 ghost use Rattle.apsp.specs.Promise.{SignedPromise};
 use decimal::Added;
 use machine::State;
+use storage::Fence;
 
 // The stop for done.
 pub const DONE: u16 = 0x33;
@@ -96,5 +97,19 @@ pub fn add(
     ensures promise { λ r. ⌜ SignedPromise (now (main .entry)) (now (local .entry)) first second length subtract r (now (main .exit)) (now (local .exit)) ⌝ }
 {
     let status = digits::with_bit(0, 0, subtract);
-    decimal::entry(&words(), main, local, first, second, length, status, DONE)
+    let whole = Fence {
+        start: 0,
+        end: 65536,
+    };
+    decimal::entry(
+        whole,
+        &words(),
+        main,
+        local,
+        first,
+        second,
+        length,
+        status,
+        DONE,
+    )
 }

@@ -15,6 +15,7 @@ use Rattle.arguments.specs.Arguments.{digitsFit, valueFrom, numberOf, by
 use Rattle.arguments.specs.declared.Number.{Number}
 use Rattle.arguments.specs.declared.Number.the-variants as N
 use Rattle.arguments.specs.declared.Given.{Given}
+use Rattle.arguments.specs.declared.Bounds.{Bounds}
 use Rattle.arguments.specs.declared.Given.the-variants as G
 use Rattle.arguments.proofs.Laws.{gives-byte, gives-address, gives-from, gives-to, gives-trap, gives-reading}
 use Rattle.arguments.specs.declared.Whole.{Whole}
@@ -22,6 +23,7 @@ use Rattle.arguments.proofs.wholes.whole_of.Reads as whole-of
 use Rattle.arguments.proofs.numbers.number_of.Reads as number-of
 use Rattle.arguments.proofs.numbers.is_number.Reads as is-number
 use Rattle.arguments.proofs.forms.given_of.Reads as given-of
+use Rattle.arguments.proofs.forms.bounds_of.Reads as bounds-of
 use Rattle.arguments.proofs.registers.with_register.Reads as with-register
 use Rattle.arguments.proofs.fields.lay.Reads as lay
 
@@ -82,6 +84,9 @@ is-number-sole κs args r s x y p q = sole p q
 
 pub given-of-sole : (κs : _) (args : _) (r s : Given) (x y : _) → given-of.Post κs args r x → given-of.Post κs args s y → r ≡ s
 given-of-sole κs args r s x y p q = sole p q
+
+pub bounds-of-sole : (κs : _) (args : _) (r s : Bounds) (x y : _) → bounds-of.Post κs args r x → bounds-of.Post κs args s y → r ≡ s
+bounds-of-sole κs args r s x y p q = sole p q
 
 pub with-register-sole : (κs : _) (args : _) (r s : State) (x y : _) → with-register.Post κs args r x → with-register.Post κs args s y → r ≡ s
 with-register-sole κs args r s x y p q = sole p q

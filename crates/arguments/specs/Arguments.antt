@@ -14,6 +14,8 @@ use Rattle.arguments.specs.declared.Whole.{Whole}
 use Rattle.arguments.specs.declared.Whole.the-variants as W
 use Rattle.arguments.specs.declared.Given.{Given}
 use Rattle.arguments.specs.declared.Given.the-variants as G
+use Rattle.arguments.specs.declared.Bounds.{Bounds}
+use Rattle.arguments.specs.declared.Bounds.the-variants as B
 
 -- ---- digits
 
@@ -101,12 +103,19 @@ limitForm name text = names name text && numberFits (drop (length name + 1) text
 abbrev pub cycleFits : List ℕ → Bool
 cycleFits text = numberFits text && ltb 0 (valueFrom 10 0 text)
 
--- a trap's cycle and its address: what stands after "TRAP=", before the first ':' and after it
+-- what stands before the first ':', and after it
+abbrev pub beforeColon : List ℕ → List ℕ
+beforeColon text = take (placeIn 58 text) text
+
+abbrev pub afterColon : List ℕ → List ℕ
+afterColon text = drop (placeIn 58 text + 1) text
+
+-- a trap's cycle and its address, after "TRAP="
 abbrev pub trapCycle : List ℕ → List ℕ
-trapCycle text = take (placeIn 58 (drop 5 text)) (drop 5 text)
+trapCycle text = beforeColon (drop 5 text)
 
 abbrev pub trapAddress : List ℕ → List ℕ
-trapAddress text = drop (placeIn 58 (drop 5 text) + 1) (drop 5 text)
+trapAddress text = afterColon (drop 5 text)
 
 -- a trap: "TRAP=", a cycle, ':', and 1 to 4 digits
 unfoldable pub trapForm : List ℕ → Bool
@@ -128,6 +137,13 @@ givenOf text =
     (cond (limitForm (ascii "FROM") text) (G.From (valueFrom 10 0 (drop 5 text)))
     (cond (limitForm (ascii "TO") text) (G.To (valueFrom 10 0 (drop 3 text)))
     (cond (trapForm text) (G.Trap (valueFrom 10 0 (trapCycle text)) (valueFrom 16 0 (trapAddress text))) (readingGiven text)))))
+
+-- ---- a fence
+
+-- a start and an end, ':' between them, each of 1 to 5 digits
+unfoldable pub boundsOf : List ℕ → Bounds
+boundsOf text =
+    cond (digitsFit 16 5 (beforeColon text) && digitsFit 16 5 (afterColon text)) (B.Are (valueFrom 16 0 (beforeColon text)) (valueFrom 16 0 (afterColon text))) B.Wrong
 
 -- ---- a register's value in a state
 

@@ -2,7 +2,8 @@
 ghost use mathlib.Core.Path.{_≡_};
 ghost use Prim.Native.Nat.{_≤_};
 ghost use lib.ListN.{length, drop};
-ghost use Rattle.arguments.specs.Arguments.{capitalOf, names, placeIn, placeOf, byteForm, addressForm, limitForm, cycleFits, trapCycle, trapAddress, trapForm, readingForm, readingGiven, givenOf};
+ghost use Rattle.arguments.specs.Arguments.{capitalOf, names, placeIn, placeOf, byteForm, addressForm, limitForm, cycleFits, beforeColon, afterColon, trapCycle, trapAddress, trapForm, readingForm, readingGiven, givenOf, boundsOf};
+use crate::Bounds;
 use crate::Given;
 use crate::numbers::between;
 use crate::numbers::digits_fit;
@@ -90,20 +91,31 @@ fn cycle_fits(text: &[u8]) -> bool
     0 < value(10, text)
 }
 
-// What stands after "TRAP=", before the first ':' and after it.
+// What stands before the first ':', and after it.
+fn before_colon(text: &[u8]) -> &[u8]
+    ensures { λ r. ⌜ now r ≡ beforeColon (now (text .entry)) ⌝ }
+{
+    let end = place_in(b':', text);
+    &text[0..end]
+}
+
+fn after_colon(text: &[u8]) -> &[u8]
+    ensures { λ r. ⌜ now r ≡ afterColon (now (text .entry)) ⌝ }
+{
+    after(text, place_in(b':', text) + 1)
+}
+
+// The same after "TRAP=".
 fn trap_cycle(text: &[u8]) -> &[u8]
     ensures { λ r. ⌜ now r ≡ trapCycle (now (text .entry)) ⌝ }
 {
-    let rest = after(text, 5);
-    let end = place_in(b':', rest);
-    &rest[0..end]
+    before_colon(after(text, 5))
 }
 
 fn trap_address(text: &[u8]) -> &[u8]
     ensures { λ r. ⌜ now r ≡ trapAddress (now (text .entry)) ⌝ }
 {
-    let rest = after(text, 5);
-    after(rest, place_in(b':', rest) + 1)
+    after_colon(after(text, 5))
 }
 
 fn trap_form(text: &[u8]) -> bool
@@ -151,4 +163,16 @@ pub fn given_of(text: &[u8]) -> Given
         return Given::Trap(value(10, trap_cycle(text)), value(16, trap_address(text)));
     }
     reading_given(text)
+}
+
+// A fence, as START:END.
+pub fn bounds_of(text: &[u8]) -> Bounds
+    ensures { λ r. ⌜ r ≡ boundsOf (now (text .entry)) ⌝ }
+{
+    let start = before_colon(text);
+    let end = after_colon(text);
+    if digits_fit(16, 5, start) & digits_fit(16, 5, end) {
+        return Bounds::Are(value(16, start), value(16, end));
+    }
+    Bounds::Wrong
 }

@@ -1,4 +1,4 @@
-// What stands on the board's command line: numbers, registers with their values, traps, a reading, and the cycles to show.
+// What stands on the board's command line: numbers, registers with their values, traps, a reading, fences, and the cycles to show.
 mod fields;
 mod forms;
 mod numbers;
@@ -6,6 +6,7 @@ mod registers;
 mod wholes;
 
 pub use fields::lay;
+pub use forms::bounds_of;
 pub use forms::given_of;
 pub use numbers::is_number;
 pub use numbers::number_of;
@@ -27,6 +28,12 @@ pub enum Given {
     Trap(u32, u32),
     Basic,
     Compatibility,
+    Wrong,
+}
+
+// The start and the end of a fence, or a text that is none.
+pub enum Bounds {
+    Are(u32, u32),
     Wrong,
 }
 

@@ -10,6 +10,7 @@ use lib.ListN.{length, take, drop, replicate, length-drop, length-append}
 use lib.Seq.{length-take-le}
 use Rattle.digits.specs.Lent.{overAt}
 use Rattle.digits.specs.Refusal.{first}
+use Rattle.storage.specs.Storage.{whole}
 use Rattle.machine.specs.Cycle.{Outcome, outcome}
 use Rattle.run.specs.declared.Finished.{Finished}
 use Rattle.decimal.specs.Entry.{addChecks, fromRun, entryOf}
@@ -45,13 +46,13 @@ few-bytes first second p q =
     (omega arith, omega arith)
 
 -- so an entry takes them
-taken : (n : ℕ) → 0 < n → n ≤ 16 → first (addChecks 1024 256 firstStart secondStart n) ≡ 0
+taken : (n : ℕ) → 0 < n → n ≤ 16 → first (addChecks whole 1024 256 firstStart secondStart n) ≡ 0
 taken n p h =
-    rw (le-ltb n 1 (omega arith), le-ltb 16 n h, le-ltb 1024 (256 + n) (omega arith), le-ltb 1024 (512 + n) (omega arith), lt-ltb 256 (512 + n) (omega arith), le-ltb 512 (256 + n) (omega arith))
+    rw (le-ltb n 1 (omega arith), le-ltb 16 n h, le-ltb 1024 (256 + n) (omega arith), le-ltb 65536 (256 + n) (omega arith), le-ltb 1024 (512 + n) (omega arith), le-ltb 65536 (512 + n) (omega arith), lt-ltb 256 (512 + n) (omega arith), le-ltb 512 (256 + n) (omega arith))
 
 -- and answers from its run
-pub entered : (done : ℕ) (run : Outcome Finished) (main local : List ℕ) (n : ℕ) → (0 < n) × (n ≤ 16) → (length main ≡ 1024) × (length local ≡ 256) → fromRun done run ≡ entryOf done run main local firstStart secondStart n
-entered done run main local n (p, h) (e, f) = accepts done run main local firstStart secondStart n (rw (e, f) (taken n p h))
+pub entered : (done : ℕ) (run : Outcome Finished) (main local : List ℕ) (n : ℕ) → (0 < n) × (n ≤ 16) → (length main ≡ 1024) × (length local ≡ 256) → fromRun done run ≡ entryOf done whole run main local firstStart secondStart n
+entered done run main local n (p, h) (e, f) = accepts done (addChecks whole (length main) (length local) firstStart secondStart n) tt run main local n (rw (e, f) (taken n p h))
 
 -- what is said of the answer to them
 pub said : (operation : Operation) (first second : List ℕ) (n : ℕ) (main m l : List ℕ) (r : Added) → n ≡ fieldLength (length first) (length second)

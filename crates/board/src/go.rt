@@ -25,19 +25,27 @@ pub struct Went {
     pub out: Out,
 }
 
-fn shown(view: View, cycle: u32) -> bool {
+pub(crate) fn shown(view: View, cycle: u32) -> bool {
     (view.from <= cycle) & (cycle <= view.to)
 }
 
 // The work of the next cycle, where it is shown.
-fn work(view: View, cycle: u32, store: &[u64], s: State) -> NextSum {
+pub(crate) fn work(view: View, cycle: u32, store: &[u64], s: State) -> NextSum {
     if shown(view, cycle) {
         return machine::next_sum(store, s);
     }
     NextSum::Nothing
 }
 
-fn show(view: View, cycle: u32, at: u16, s: State, sum: NextSum, out: Out, room: &mut [u8]) -> Out {
+pub(crate) fn show(
+    view: View,
+    cycle: u32,
+    at: u16,
+    s: State,
+    sum: NextSum,
+    out: Out,
+    room: &mut [u8],
+) -> Out {
     let NextSum::Sums(w) = sum else {
         return out;
     };
@@ -53,15 +61,18 @@ fn show(view: View, cycle: u32, at: u16, s: State, sum: NextSum, out: Out, room:
 }
 
 // The names of the columns.
-fn heading(view: View, room: &mut [u8]) -> Out {
+pub(crate) fn show_heading(view: View, out: Out, room: &mut [u8]) -> Out {
     if view.lamps {
-        return out::new();
+        return out;
     }
-    let text = lamps::header(room);
-    out::put(out::new(), text, room)
+    let out = out::ready(out, room);
+    let from = out.waiting;
+    let end = room.len();
+    let text = lamps::header(&mut room[from..end]);
+    out::put(out, text, room)
 }
 
-fn show_start(view: View, s: State, out: Out, room: &mut [u8]) -> Out {
+pub(crate) fn show_start(view: View, s: State, out: Out, room: &mut [u8]) -> Out {
     let out = out::ready(out, room);
     let from = out.waiting;
     let end = room.len();
@@ -75,11 +86,20 @@ fn show_start(view: View, s: State, out: Out, room: &mut [u8]) -> Out {
 
 // What stands before the cycles: the state then counts as cycle 0.
 pub fn begin(view: View, s: State, room: &mut [u8]) -> Out {
-    let out = heading(view, room);
+    let out = show_heading(view, out::new(), room);
     if !shown(view, 0) {
         return out;
     }
     show_start(view, s, out, room)
+}
+
+// An ending, and the address of the word at which it came.
+pub(crate) fn show_ending(ending: Ending, at: u16, out: Out, room: &mut [u8]) -> Out {
+    let out = out::ready(out, room);
+    let from = out.waiting;
+    let end = room.len();
+    let text = lamps::ending(ending, at, &mut room[from..end]);
+    out::put(out, text, room)
 }
 
 // How the run ended. A refusal is told on standard error too.
@@ -88,11 +108,7 @@ pub fn end(finished: Finished, out: Out, room: &mut [u8]) -> Out {
     if let Ending::Refused(_, _) = ending {
         tell::line(b"the run was refused");
     }
-    let out = out::ready(out, room);
-    let from = out.waiting;
-    let end = room.len();
-    let text = lamps::ending(ending, finished.state.wx, &mut room[from..end]);
-    out::put(out, text, room)
+    show_ending(ending, finished.state.wx, out, room)
 }
 
 fn ended(ending: Ending, state: State, count: u32, out: Out) -> Went

@@ -1,5 +1,6 @@
 // The host program, for a person at a bench or in front of a class.
 mod add;
+mod both;
 mod go;
 mod options;
 mod out;
@@ -7,6 +8,8 @@ mod readout;
 mod runs;
 mod tell;
 mod traps;
+mod turns;
+mod two;
 
 use add::Operation;
 use libc::STDOUT_FILENO;
@@ -22,6 +25,9 @@ board sp FIRST SECOND [FROM=n] [TO=n]
 board run DECK MAIN CYCLES [I=HH ..] [TRAP=n:HHH ..] [READING=B|C] [FROM=n] [TO=n]
     runs a deck over a storage image for at most so many cycles, from the registers given: I J U V L T D R S G H M N=HH, WX=HHH
     TRAP=n:HHH traps to that address before cycle n
+board two DECK MAIN CYCLES FENCE FENCE ORDER [A.I=HH ..] [B.I=HH ..] [READING=B|C] [FROM=n] [TO=n]
+    two boards take turns over one deck and one image, a cycle a turn and so many turns in all, each in its fence START:END, as 100:180, an end not in it
+    ORDER says whose turn it is, as AAB, over and over; A.I=HH and B.WX=HHH give a board its registers; a cycle's number is its board's own
 board lamps add .. | board lamps ap .. | board lamps sp .. | board lamps run ..
     the same, each register as eight lamps
 board walk
@@ -58,6 +64,7 @@ enum Command {
     Ap,
     Sp,
     Run,
+    Two,
     Lamps,
     Walk,
     Signed,
@@ -81,6 +88,9 @@ fn named(word: &[u8]) -> Command {
     }
     if check::same(word, b"run") {
         return Command::Run;
+    }
+    if check::same(word, b"two") {
+        return Command::Two;
     }
     if check::same(word, b"lamps") {
         return Command::Lamps;
@@ -126,13 +136,14 @@ fn main() {
         Command::Ap => add::add(false, Operation::Signed(false)),
         Command::Sp => add::add(false, Operation::Signed(true)),
         Command::Run => runs::run(false),
+        Command::Two => runs::two(),
         Command::Lamps => as_lamps(),
         Command::Walk => walk(),
         Command::Signed => readout::signed(),
         Command::Help => help(),
         Command::Other => tell::wrong(
             1,
-            b"is neither add, ap, sp, run, lamps, walk, signed nor help",
+            b"is neither add, ap, sp, run, two, lamps, walk, signed nor help",
         ),
     }
 }

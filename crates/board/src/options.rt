@@ -43,7 +43,7 @@ fn none() -> Options {
 }
 
 // Marks a place, and tells whether it was marked before.
-fn marked(place: u8, seen: &mut [u8]) -> bool {
+pub(crate) fn marked(place: u8, seen: &mut [u8]) -> bool {
     let i = place as usize;
     if seen.len() <= i {
         return true;
@@ -144,8 +144,7 @@ pub fn read(first: usize, takes: Takes) -> Asked {
         }
         at += 1;
     }
-    if o.to < o.from {
-        tell::line(b"FROM is over TO");
+    if tell::crossed(o.from, o.to) {
         return Asked::Wrong;
     }
     Asked::Options(o)

@@ -1,4 +1,4 @@
-// board run: a deck over a storage image, from registers, under a reading and with traps that the command line gives.
+// board run and board two: a deck over a storage image, from registers, under a reading and with traps that the command line gives.
 ghost use Prim.Native.Nat.{_≤_};
 ghost use lib.ListN.{length};
 ghost use Rattle.input.specs.Inside.{Inside};
@@ -10,9 +10,16 @@ use crate::options::Takes;
 use crate::out;
 use crate::tell;
 use crate::traps;
+use crate::two;
 use arguments::Number;
 use deck::ReadIn;
 use input::Input;
+
+// What is to be done with a deck and an image: a run, as lamps or as lines, or turns of two boards.
+pub enum Wanted {
+    Run(bool),
+    Two,
+}
 
 fn read_from(fd: i32, room: &mut [u8]) -> Input
     ensures { λ r. ⌜ Inside r (length (now (room .exit))) ⌝ }
@@ -78,7 +85,7 @@ fn budget(at: usize) -> Number {
     number
 }
 
-fn with_words(lamps: bool, words: &[u64], at: usize)
+fn with_words(wanted: Wanted, words: &[u64], at: usize)
     requires { ⌜ at ≤ 4 ⌝ }
 {
     let mut main = [0u8; 65537];
@@ -92,28 +99,44 @@ fn with_words(lamps: bool, words: &[u64], at: usize)
     let Number::Is(cycles) = budget(at + 1) else {
         return;
     };
-    over(lamps, words, &mut main[0..size], cycles, at + 2);
+    let image = &mut main[0..size];
+    match wanted {
+        Wanted::Run(lamps) => over(lamps, words, image, cycles, at + 2),
+        Wanted::Two => two::over(words, image, cycles, at + 2),
+    }
 }
 
-fn with_deck(lamps: bool, deck: &[u8], words: &mut [u64], at: usize)
+fn with_deck(wanted: Wanted, deck: &[u8], words: &mut [u64], at: usize)
     requires { ⌜ at ≤ 3 ⌝ }
 {
     match deck::read(deck, words) {
         ReadIn::Refused(number) => tell::refused(at, number),
-        ReadIn::Words(count) => with_words(lamps, &words[0..count], at + 1),
+        ReadIn::Words(count) => with_words(wanted, &words[0..count], at + 1),
     }
 }
 
-// A deck, an image, a number of cycles, and options. A longer deck fills the room, and is refused.
-pub fn run(lamps: bool) {
-    let at = options::first_at(lamps);
-    if !tell::enough(at + 2) {
-        return;
-    }
+// A deck, an image, a number of cycles, and what follows them. A longer deck fills the room, and is refused.
+fn from_files(wanted: Wanted, at: usize)
+    requires { ⌜ at ≤ 3 ⌝ }
+{
     let mut bytes = [0u8; 34305];
     let mut words = [0u64; 4096];
     let Input::Bytes(n) = read_file(at, &mut bytes) else {
         return;
     };
-    with_deck(lamps, &bytes[0..n], &mut words, at);
+    with_deck(wanted, &bytes[0..n], &mut words, at);
+}
+
+pub fn run(lamps: bool) {
+    let at = options::first_at(lamps);
+    if tell::enough(at + 2) {
+        from_files(Wanted::Run(lamps), at);
+    }
+}
+
+// Two boards: two fences and an order more.
+pub fn two() {
+    if tell::enough(7) {
+        from_files(Wanted::Two, 2);
+    }
 }

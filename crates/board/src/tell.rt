@@ -27,11 +27,8 @@ fn put_front(bytes: &[u8], size: usize) {
     }
 }
 
-// What is refused, and why, in words; none takes more than 64 bytes.
-fn reason(at: usize, what: &[u8], number: u8) {
-    argument(at);
-    io::write_all(STDERR_FILENO, b"is ");
-    io::write_all(STDERR_FILENO, what);
+// By which number something is refused, and why, in words; none takes more than 64 bytes.
+fn by_number(number: u8) {
     io::write_all(STDERR_FILENO, b" refused by ");
     io::print_decimal(STDERR_FILENO, number as u64);
     io::write_all(STDERR_FILENO, b": ");
@@ -39,6 +36,27 @@ fn reason(at: usize, what: &[u8], number: u8) {
     if let Written::Text(size) = text::words(number, &mut words) {
         put_front(&words, size);
     }
+}
+
+fn reason(at: usize, what: &[u8], number: u8) {
+    argument(at);
+    io::write_all(STDERR_FILENO, b"is ");
+    io::write_all(STDERR_FILENO, what);
+    by_number(number);
+}
+
+pub fn refused_fences(number: u8) {
+    io::write_all(STDERR_FILENO, b"board: the fences are");
+    by_number(number);
+    io::write_all(STDERR_FILENO, b"\n");
+}
+
+// FROM is over TO, and nothing would be shown.
+pub(crate) fn crossed(from: u32, to: u32) -> bool {
+    if to < from {
+        line(b"FROM is over TO");
+    }
+    to < from
 }
 
 pub fn refused(at: usize, number: u8) {

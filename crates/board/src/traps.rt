@@ -82,7 +82,8 @@ fn missed(trap: Trap) {
     }
 }
 
-fn spent(ending: Ending) -> bool
+// The run may go on.
+pub(crate) fn spent(ending: Ending) -> bool
     ensures { λ r. ⌜ r ≡ isSpent ending ⌝ }
 {
     match ending {

@@ -1,4 +1,3 @@
-pub mod Arms
 mod Scan
 pub mod Alike
 pub mod Promises

@@ -1,13 +1,16 @@
 -- Sums of bytes: a pair of registers as one address, a count, a carry. Assumes nothing.
 use Prim.Native.Nat.{ℕ, suc, _+_, _*_, _/_, _%_, _<_, _≤_}
 use mathlib.Core.Path.{_≡_, refl, ap, _∙_}
-use mathlib.Core.Bool.{Bool, true, false}
+use mathlib.Core.Bool.{Bool, true, false, _||_}
 use native.Mathlib.Omega.{arith}
 use lib.Dec.{eqb}
-use borrow.Author.Tests.{lt-leb, ne-eqb}
+use borrow.Author.Tests.{ne-eqb}
 use lib.Dec.{leb}
 use Rattle.digits.specs.Bits.{one, bit, withBit}
 use Rattle.digits.proofs.Bits.{one-lt, bit-with}
+use Rattle.storage.specs.Storage.{beyond}
+use Rattle.storage.specs.declared.Fence.{Fence}
+use Rattle.storage.proofs.Inside.{In, in-is}
 use Rattle.adder.specs.Adder.{summed, resultOf}
 use Rattle.adder.specs.declared.Sum.{Sum}
 use Rattle.adder.proofs.Laws.{arithmetic, arithmetic-byte, binary-sum}
@@ -69,13 +72,33 @@ along s a l small = moved s a 0 l false (omega arith) small (a + l) (omega arith
 abbrev pub held : ℕ → ℕ
 held a = a / 256 % 256 * 256 + a % 256
 
--- one inside main storage
-module _ (a size : ℕ) (inside : a < size) (fits : size ≤ 65536) where
+-- one inside main storage and the fence
+module _ (fence : Fence) (a size : ℕ) (inside : In fence size a) (fits : size ≤ 65536) where
   pub address : held a ≡ a
-  address = omega arith
+  address = omega (arith, inside .in-main)
 
-  pub within : leb size (held a) ≡ false
-  within = lt-leb size (held a) (omega arith)
+  pub within : leb size (held a) || beyond fence (held a) ≡ false
+  within = rw address (in-is fence size a inside)
+
+-- a field of n bytes there
+pub record Lies (fence : Fence) (size a n : ℕ) : Type 0 where
+  pub in-main : a + n ≤ size
+  pub low : fence .start ≤ a
+  pub high : a + n ≤ fence .end
+
+module _ {fence : Fence} {size a n : ℕ} where
+  -- its first byte and the others, its last byte and the others
+  pub first-in : Lies fence size a (suc n) → In fence size a
+  first-in l = record { in-main = omega (arith, l .in-main); in-fence = (l .low, omega (arith, l .high)) }
+
+  pub next-lies : Lies fence size a (suc n) → Lies fence size (a + 1) n
+  next-lies l = record { in-main = omega (arith, l .in-main); low = omega (arith, l .low); high = omega (arith, l .high) }
+
+  pub last-in : Lies fence size a (suc n) → In fence size (a + n)
+  last-in l = record { in-main = omega (arith, l .in-main); in-fence = (omega (arith, l .low), omega (arith, l .high)) }
+
+  pub front-lies : Lies fence size a (suc n) → Lies fence size a n
+  front-lies l = record { in-main = omega (arith, l .in-main); low = l .low; high = omega (arith, l .high) }
 
 -- the registers of an address
 pub starts : (a : ℕ) → a < 65536 → (a / 256, a % 256) ≡ halves a

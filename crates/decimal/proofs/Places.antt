@@ -9,6 +9,7 @@ use lib.Dec.{T, eqb}
 use Rattle.digits.specs.Bits.{one, bit, withBit}
 use Rattle.digits.specs.Table.{among}
 use Rattle.digits.proofs.Bits.{bit-with, bit-other}
+use Rattle.storage.specs.declared.Fence.{Fence}
 use Rattle.adder.proofs.Laws.{arithmetic}
 use Rattle.machine.specs.Cycle.{stops}
 use Rattle.machine.specs.declared.State.{State}
@@ -103,11 +104,11 @@ resting wx main = record { wx = wx; main = main; Known = λ (s : State). Unit {0
 abbrev pub ended : ℕ → List ℕ → Bool → Place
 ended wx main on = record { wx = wx; main = main; Known = λ (s : State). bit (s .s) 3 ≡ on }
 
-module _ (store local : List ℕ) where
+module _ (fence : Fence) (store local : List ℕ) where
   -- k cycles from a machine to a place
   pub record Reaches (k : ℕ) (m : Machine) (q : Place) : Type 0 where
     pub x : State
-    pub goes : Goes (basic store) k m (machine (idle (q .wx) x) (q .main) local)
+    pub goes : Goes (basic fence store) k m (machine (idle (q .wx) x) (q .main) local)
     pub known : q .Known x
 
   -- from every state of one place to a state of another
@@ -117,7 +118,7 @@ module _ (store local : List ℕ) where
   -- one after the other
   pub on : {j k : ℕ} {m : Machine} {q r : Place} → Right store m → Reaches j m q → Block k q r → Reaches (j + k) m r
   on right y c =
-      let z = c (y .x) (goes-right (lawful Basic store) (y .goes) right) (y .known) in
+      let z = c (y .x) (goes-right (lawful fence Basic store) (y .goes) right) (y .known) in
       record { x = z .x; goes = join (y .goes) (z .goes); known = z .known }
 
   pub then : {j k : ℕ} {p q r : Place} → Block j p q → Block k q r → Block (j + k) p r
@@ -146,8 +147,8 @@ module _ (store local : List ℕ) where
   -- k cycles to a stop at another word than this, with this in main storage
   pub record Refuses (done k : ℕ) (m : Machine) (main : List ℕ) : Type 0 where
     pub x : State
-    pub goes : Goes (basic store) k m (machine x main local)
-    pub stops : Halts (basic store) (machine x main local)
+    pub goes : Goes (basic fence store) k m (machine x main local)
+    pub stops : Halts (basic fence store) (machine x main local)
     pub apart : eqb (x .wx) done ≡ false
 
   -- from every state of a place
@@ -156,7 +157,7 @@ module _ (store local : List ℕ) where
 
   pub on-refuses : {done j k : ℕ} {m : Machine} {q : Place} {main : List ℕ} → Right store m → Reaches j m q → Refusing done k q main → Refuses done (j + k) m main
   on-refuses right y r =
-      let z = r (y .x) (goes-right (lawful Basic store) (y .goes) right) (y .known) in
+      let z = r (y .x) (goes-right (lawful fence Basic store) (y .goes) right) (y .known) in
       record { x = z .x; goes = join (y .goes) (z .goes); stops = z .stops; apart = z .apart }
 
   pub then-refuses : {done j k : ℕ} {p q : Place} {main : List ℕ} → Block j p q → Refusing done k q main → Refusing done (j + k) p main
@@ -165,34 +166,34 @@ module _ (store local : List ℕ) where
 -- ---- words that lead to a place
 
 -- they come to it, with nothing under way in storage
-pub record Walks (program : List Microword) (local : List ℕ) (ws : List Turn) (m : Machine) (q : Place) : Type 0 where
-  pub way : Way program ws m
+pub record Walks (fence : Fence) (program : List Microword) (local : List ℕ) (ws : List Turn) (m : Machine) (q : Place) : Type 0 where
+  pub way : Way program fence ws m
   pub rests : let z = walked program ws m in machine (idle (z .state .wx) (z .state)) (z .main) local ≡ z
   pub comes : walked program ws m .state .wx ≡ q .wx
   pub stores : walked program ws m .main ≡ q .main
   pub known : q .Known (walked program ws m .state)
 
-module _ (store : List ℕ) (program : List Microword) (places : List ℕ) (w : Has store program places) (local : List ℕ) where
-  pub walks : (ws : List Turn) → T (allGoing program places ws) → {m : Machine} {q : Place} → Right store m → Walks program local ws m q → Reaches store local (turns ws) m q
+module _ (fence : Fence) (store : List ℕ) (program : List Microword) (places : List ℕ) (w : Has store program places) (local : List ℕ) where
+  pub walks : (ws : List Turn) → T (allGoing program places ws) → {m : Machine} {q : Place} → Right store m → Walks fence program local ws m q → Reaches fence store local (turns ws) m q
   walks ws t {m} {q} right r =
       let z : Machine = walked program ws m in
       record {
         x = z .state;
-        goes = subst (λ (wx : ℕ). Goes (basic store) (turns ws) m (machine (idle wx (z .state)) (q .main) local)) (r .comes)
-            (subst (λ (main : List ℕ). Goes (basic store) (turns ws) m (machine (idle (z .state .wx) (z .state)) main local)) (r .stores)
-            (subst (Goes (basic store) (turns ws) m) (sym (r .rests)) (walk store program places w ws t m right (r .way))));
+        goes = subst (λ (wx : ℕ). Goes (basic fence store) (turns ws) m (machine (idle wx (z .state)) (q .main) local)) (r .comes)
+            (subst (λ (main : List ℕ). Goes (basic fence store) (turns ws) m (machine (idle (z .state .wx) (z .state)) main local)) (r .stores)
+            (subst (Goes (basic fence store) (turns ws) m) (sym (r .rests)) (walk fence store program places w ws t m right (r .way))));
         known = r .known;
       }
 
   -- a stop
   pub refuse : (done wx : ℕ) → T (among wx places && stops (fieldsAt program wx)) → eqb wx done ≡ false → {k : ℕ} {p : Place} (main : List ℕ)
-      → Block store local k p (resting wx main) → Refusing store local done k p main
+      → Block fence store local k p (resting wx main) → Refusing fence store local done k p main
   refuse done wx t e main b x right known =
       let y = b x right known in
       record {
         x = idle wx (y .x);
         goes = y .goes;
-        stops = stop store program places w wx t (machine (idle wx (y .x)) main local) (goes-right (lawful Basic store) (y .goes) right) refl;
+        stops = stop fence store program places w wx t (machine (idle wx (y .x)) main local) (goes-right (lawful fence Basic store) (y .goes) right) refl;
         apart = e;
       }
 

@@ -13,6 +13,7 @@ use Rattle.digits.specs.Bits.{one}
 use Rattle.digits.specs.Digits.{bothDecimal, val}
 use Rattle.digits.proofs.Bits.{one-lt}
 use Rattle.digits.proofs.Truth.{either-way}
+use Rattle.storage.specs.declared.Fence.{Fence}
 use Rattle.adder.specs.Adder.{entering}
 use Rattle.adder.specs.declared.Sum.{Sum}
 use Rattle.adder.proofs.Laws.{arithmetic, decimal-sum, decimal-difference, both-at-most}
@@ -76,7 +77,7 @@ module _ (a n r x y vx vy : ℕ) (main main′ : List ℕ) (c k q : Bool) (decim
 -- ---- a pass
 
 -- the byte at a + n first: it is written, and the n before it are as they were
-module _ {store local : List ℕ} (p : Summing store local) (a b n : ℕ) (s : Passing) (f : Fits p a b (suc n) s) where
+module _ {fence : Fence} {store local : List ℕ} (p : Summing fence store local) (a b n : ℕ) (s : Passing) (f : Fits p a b (suc n) s) where
   abbrev t : Passing
   t = onward p a b n s
 
@@ -101,13 +102,13 @@ module _ {store local : List ℕ} (p : Summing store local) (a b n : ℕ) (s : P
       → Stands less a (suc n) (s .main) main′ (cond first (value (s .main) a n) 0 * 100 + val x) (value (s .main) b n * 100 + val y) (s .carry) k
   stands-on less first x y is dx dy main′ k rest =
       stands-more a n r (cond first (value (s .main) a n) 0) (value (s .main) b n) (val x) (val y) (s .main) main′ (s .carry) (t .carry) k
-      (ap (λ (z : Sum). bothDecimal (z .result)) is ∙ byte-decimal x y (s .carry) dx dy less) (omega (arith, f .in-a)) less
+      (ap (λ (z : Sum). bothDecimal (z .result)) is ∙ byte-decimal x y (s .carry) dx dy less) (omega (arith, f .in-a .in-main)) less
       (ap (λ (z : Sum). val (z .result) + 100 * one (z .ac) + cond less (val y + 1) 0) is ∙ byte-writes x y (s .carry) dx dy less)
       (subst (λ (v : ℕ). Stands less a n (t .main) main′ (cond first v 0) (value (s .main) b n) (t .carry) k) (value-same (t .main) (s .main) a n other-a)
       (subst (λ (v : ℕ). Stands less a n (t .main) main′ (cond first (value (t .main) a n) 0) v (t .carry) k) (value-same (t .main) (s .main) b n other-b) rest))
 
 -- where the marks stay such that each byte of the first field, or none, takes each of the second
-module _ {store local : List ℕ} (p : Summing store local) (less first : Bool) (Good : Marks → Type 0)
+module _ {fence : Fence} {store local : List ℕ} (p : Summing fence store local) (less first : Bool) (Good : Marks → Type 0)
     (sums : (m : Marks) → Good m → (x y : ℕ) (c : Bool) → p .sum m x y c ≡ arithmetic true (cond first x 0) (entering true less y) (one c))
     (stays : (m : Marks) (r : ℕ) → Good m → Good (p .next m r)) (a b : ℕ) where
   taken : (first : Bool) (x : ℕ) → bothDecimal x ≡ true → bothDecimal (cond first x 0) ≡ true

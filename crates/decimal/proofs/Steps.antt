@@ -14,15 +14,16 @@ use Rattle.word.specs.declared.Fields.{Fields}
 use Rattle.word.specs.declared.Packed.{Packed}
 use Rattle.word.specs.declared.Packed.the-variants as P
 use Rattle.word.proofs.Trips.{packed-apart}
+use Rattle.storage.specs.Storage.{outside, mainAfter, localAfter}
+use Rattle.storage.specs.declared.Fence.{Fence}
 use Rattle.machine.specs.Sources.{entered}
-use Rattle.machine.specs.Storage.{outside, mainAfter, localAfter}
 use Rattle.codes.specs.Modelled.{unmodelledOf}
 use Rattle.codes.specs.declared.Reading.the-variants.{Basic}
-use Rattle.machine.specs.Cycle.{outcome, stops, accessIn, ranOf, stepOf, cycleOf}
+use Rattle.machine.specs.Cycle.{outcome, stops, accessIn, ranOf, stepOf, cycleIn}
 use Rattle.machine.specs.declared.State.{State}
 use Rattle.machine.specs.declared.Cycled.the-variants as C
 use Rattle.machine.proofs.Cycles.{on-stop, on-ran, afterFields, on-apart}
-use Rattle.run.specs.Run.{Cycle, ended, runOf}
+use Rattle.run.specs.Run.{Cycle, ended, runIn}
 use Rattle.run.specs.declared.Ending.the-variants.{Stopped}
 use Rattle.run.proofs.Goes.{Machine, machine, Leads, Halts, Goes, here, next, Right, lawful, goes-right, ends}
 use Rattle.run.proofs.Promises.{right-begins}
@@ -127,8 +128,8 @@ has store program places t a h =
 -- ---- one word
 
 -- "the shipped programs are run under basic"
-abbrev pub basic : List ℕ → Cycle
-basic store = cycleOf Basic store
+abbrev pub basic : Fence → List ℕ → Cycle
+basic fence store = cycleIn fence Basic store
 
 -- the state that it leaves
 abbrev pub stateAfter : Fields → Machine → State
@@ -150,20 +151,20 @@ T-true false t = absurd t
 abbrev runsOn : Fields → Bool
 runsOn f = not (stops f) && eqb (unmodelledOf Basic f) 0
 
-module _ (store : List ℕ) (a : ℕ) (f : Fields) (w : Holds store a f) (m : Machine) (right : Right store m) (here : m .state .wx ≡ a) where
-  by-fields : stepOf Basic f (m .main) (m .local) (m .state) ≡ cycleOf Basic store (m .main) (m .local) (m .state)
+module _ (fence : Fence) (store : List ℕ) (a : ℕ) (f : Fields) (w : Holds store a f) (m : Machine) (right : Right store m) (here : m .state .wx ≡ a) where
+  by-fields : stepOf fence Basic f (m .main) (m .local) (m .state) ≡ cycleIn fence Basic store (m .main) (m .local) (m .state)
   by-fields =
-      on-apart Basic store (m .main) (m .local) (m .state) right (rw here (w .inside)) f
+      on-apart fence Basic store (m .main) (m .local) (m .state) right (rw here (w .inside)) f
       (rw here (packed-apart f a (getD store a 0) (w .word)))
 
-  runs : T (runsOn f) → outside (length (m .main)) (accessIn f (m .state)) ≡ false → Leads (basic store) m (leaving f m (mainLeft f m))
+  runs : T (runsOn f) → outside fence (length (m .main)) (accessIn f (m .state)) ≡ false → Leads (basic fence store) m (leaving f m (mainLeft f m))
   unfolding ranOf
   runs t o =
       let (going, modelled) = and-yes (not (stops f)) (eqb (unmodelledOf Basic f) 0) t in
-      sym (on-ran Basic f (m .main) (m .local) (m .state) (not-true (stops f) (T-true (not (stops f)) going)) (eqb→eq (unmodelledOf Basic f) 0 modelled) o) ∙ by-fields
+      sym (on-ran fence Basic f (m .main) (m .local) (m .state) (not-true (stops f) (T-true (not (stops f)) going)) (eqb→eq (unmodelledOf Basic f) 0 modelled) o) ∙ by-fields
 
-  pub halts : T (stops f) → Halts (basic store) m
-  halts t = sym (on-stop Basic f (m .main) (m .local) (m .state) (T-true (stops f) t)) ∙ by-fields
+  pub halts : T (stops f) → Halts (basic fence store) m
+  halts t = sym (on-stop fence Basic f (m .main) (m .local) (m .state) (T-true (stops f) t)) ∙ by-fields
 
 -- ---- words in a row
 
@@ -190,14 +191,14 @@ module _ (program : List Microword) where
   walked (back a ∷ ws) m = walked ws (put-back a m)
 
   -- the machine has come to a word, and what that finds in storage is inside
-  abbrev Comes : ℕ → Machine → Type 0
-  Comes a m = (m .state .wx ≡ a) × (outside (length (m .main)) (accessIn (fieldsAt program a) (placed a (m .state))) ≡ false)
+  abbrev Comes : Fence → ℕ → Machine → Type 0
+  Comes fence a m = (m .state .wx ≡ a) × (outside fence (length (m .main)) (accessIn (fieldsAt program a) (placed a (m .state))) ≡ false)
 
   -- so it is with each of them
-  abbrev pub Way : List Turn → Machine → Type 0
-  Way [] m = Unit {0}
-  Way (run a ∷ ws) m = Comes a m × Way ws (ran a m)
-  Way (back a ∷ ws) m = Comes a m × (mainLeft (fieldsAt program a) (there a m) ≡ m .main) × Way ws (put-back a m)
+  abbrev pub Way : Fence → List Turn → Machine → Type 0
+  Way fence [] m = Unit {0}
+  Way fence (run a ∷ ws) m = Comes fence a m × Way fence ws (ran a m)
+  Way fence (back a ∷ ws) m = Comes fence a m × (mainLeft (fieldsAt program a) (there a m) ≡ m .main) × Way fence ws (put-back a m)
 
   abbrev going : List ℕ → ℕ → Bool
   going places a = among a places && runsOn (fieldsAt program a)
@@ -211,36 +212,36 @@ abbrev pub turns : List Turn → ℕ
 turns [] = 0
 turns (w ∷ ws) = suc (turns ws)
 
-module _ (store : List ℕ) (program : List Microword) (places : List ℕ) (w : Has store program places) where
-  one-turn : (a : ℕ) → T (going program places a) → (m : Machine) → Right store m → Comes program a m → (main : List ℕ) → mainLeft (fieldsAt program a) (there a m) ≡ main
-      → Leads (basic store) m (leaving (fieldsAt program a) (there a m) main)
+module _ (fence : Fence) (store : List ℕ) (program : List Microword) (places : List ℕ) (w : Has store program places) where
+  one-turn : (a : ℕ) → T (going program places a) → (m : Machine) → Right store m → Comes program fence a m → (main : List ℕ) → mainLeft (fieldsAt program a) (there a m) ≡ main
+      → Leads (basic fence store) m (leaving (fieldsAt program a) (there a m) main)
   one-turn a t m right (come, inside) main e =
       let f : Fields = fieldsAt program a in
       let x : Machine = there a m in
       let (placed-there, going) = and-yes (among a places) (runsOn f) t in
-      subst (λ (s : State). Leads (basic store) (machine s (m .main) (m .local)) (leaving f x main)) (λ i. placed (sym come i) (m .state))
-      (ap (λ (l : List ℕ). outcome (C.Ran (stateAfter f x)) l (leaving f x main .local)) (sym e) ∙ runs store a f (w a placed-there) x right refl going inside)
+      subst (λ (s : State). Leads (basic fence store) (machine s (m .main) (m .local)) (leaving f x main)) (λ i. placed (sym come i) (m .state))
+      (ap (λ (l : List ℕ). outcome (C.Ran (stateAfter f x)) l (leaving f x main .local)) (sym e) ∙ runs fence store a f (w a placed-there) x right refl going inside)
 
-  pub walk : (ws : List Turn) → T (allGoing program places ws) → (m : Machine) → Right store m → Way program ws m → Goes (basic store) (turns ws) m (walked program ws m)
+  pub walk : (ws : List Turn) → T (allGoing program places ws) → (m : Machine) → Right store m → Way program fence ws m → Goes (basic fence store) (turns ws) m (walked program ws m)
   walk [] t m right way = here
   walk (run a ∷ ws) t m right (comes, rest) =
       let (on, more) = and-yes (going program places a) (allGoing program places ws) t in
       let one = one-turn a on m right comes (mainLeft (fieldsAt program a) (there a m)) refl in
-      next one (walk ws more (ran program a m) (goes-right (lawful Basic store) (next one here) right) rest)
+      next one (walk ws more (ran program a m) (goes-right (lawful fence Basic store) (next one here) right) rest)
   walk (back a ∷ ws) t m right (comes, stands, rest) =
       let (on, more) = and-yes (going program places a) (allGoing program places ws) t in
       let one = one-turn a on m right comes (m .main) stands in
-      next one (walk ws more (put-back program a m) (goes-right (lawful Basic store) (next one here) right) rest)
+      next one (walk ws more (put-back program a m) (goes-right (lawful fence Basic store) (next one here) right) rest)
 
-  pub stop : (a : ℕ) → T (among a places && stops (fieldsAt program a)) → (m : Machine) → Right store m → m .state .wx ≡ a → Halts (basic store) m
+  pub stop : (a : ℕ) → T (among a places && stops (fieldsAt program a)) → (m : Machine) → Right store m → m .state .wx ≡ a → Halts (basic fence store) m
   stop a t m right come =
       let (placed-there, stopping) = and-yes (among a places) (stops (fieldsAt program a)) t in
-      halts store a (fieldsAt program a) (w a placed-there) m right come stopping
+      halts fence store a (fieldsAt program a) (w a placed-there) m right come stopping
 
 -- ---- a run
 
 -- that comes to a stop within its budget
-pub run-stops : (store : List ℕ) (budget k : ℕ) (s : State) (main local : List ℕ) (x : Machine) → Right store (machine s main local) → budget ≤ 1000000
-    → Goes (basic store) k (machine s main local) x → Halts (basic store) x → k < budget → runOf budget Basic store main local s ≡ ended Stopped (x .state) k (x .main) (x .local)
-run-stops store budget k s main local x right most g h less =
-    sym (right-begins (basic store) store (machine s main local) right budget most) ∙ ends g budget Stopped (less, h)
+pub run-stops : (fence : Fence) (store : List ℕ) (budget k : ℕ) (s : State) (main local : List ℕ) (x : Machine) → Right store (machine s main local) → budget ≤ 1000000
+    → Goes (basic fence store) k (machine s main local) x → Halts (basic fence store) x → k < budget → runIn budget fence Basic store main local s ≡ ended Stopped (x .state) k (x .main) (x .local)
+run-stops fence store budget k s main local x right most g h less =
+    sym (right-begins (basic fence store) store (machine s main local) right budget most) ∙ ends g budget Stopped (less, h)

@@ -6,6 +6,7 @@ use mathlib.Core.Bool.{Bool, true, false, cond, _&&_}
 use native.Mathlib.Omega.{arith}
 use lib.ListN.{length, getD}
 use Rattle.digits.specs.Digits.{bothDecimal}
+use Rattle.storage.specs.declared.Fence.{Fence}
 use Rattle.adder.proofs.Laws.{both-at-most}
 use Rattle.run.proofs.Goes.{machine, Right}
 use Rattle.decimal.specs.Value.{value, decimalField}
@@ -26,13 +27,13 @@ decimal-lt b d = omega (arith, both-at-most b d)
 abbrev none : Marks
 none = marked false false false false false
 
-module _ (main local : List ℕ) (a b k : ℕ) (c : Bool) (f : Fit (length main) (length local) a b (suc k)) where
+module _ (fence : Fence) (main local : List ℕ) (a b k : ℕ) (c : Bool) (f : Fit fence (length main) (length local) a b (suc k)) where
   pub right : Right shipped (machine (start a b (suc k) c) main local)
   unfolding shipped
   right = f .sizes
 
-  begun : Reaches shipped local 2 (machine (start a b (suc k) c) main local) (at 0x02 main (view a b (suc k) (suc k) c none))
-  begun = begins local main a b (suc k) c right (omega (arith, f .in-a, f .fits)) (omega (arith, f .in-b, f .fits)) (omega (arith, f .few))
+  begun : Reaches fence shipped local 2 (machine (start a b (suc k) c) main local) (at 0x02 main (view a b (suc k) (suc k) c none))
+  begun = begins fence local main a b (suc k) c right (omega (arith, f .in-a .in-main, f .fits)) (omega (arith, f .in-b .in-main, f .fits)) (omega (arith, f .few))
 
   -- where every digit is decimal
   module _ (da : decimalField main a (suc k) ≡ true) (db : decimalField main b (suc k) ≡ true) where
@@ -40,9 +41,9 @@ module _ (main local : List ℕ) (a b k : ℕ) (c : Bool) (f : Fit (length main)
     at-first = passing main c none
 
     abbrev pub at-end : Passing
-    at-end = pass (plain local) a b (suc k) at-first
+    at-end = pass (plain fence local) a b (suc k) at-first
 
-    fits : Fits (plain local) a b (suc k) at-first
+    fits : Fits (plain fence local) a b (suc k) at-first
     fits =
         record {
           most = f .fits;
@@ -52,23 +53,23 @@ module _ (main local : List ℕ) (a b k : ℕ) (c : Bool) (f : Fit (length main)
           bytes = λ i h. decimal-lt (getD main (b + i) 0) (field-sound main b (suc k) db i h);
         }
 
-    pub adds : Reaches shipped local (14 * suc k + 4) (machine (start a b (suc k) c) main local) (ended SUMMED (at-end .main) (at-end .carry))
+    pub adds : Reaches fence shipped local (14 * suc k + 4) (machine (start a b (suc k) c) main local) (ended SUMMED (at-end .main) (at-end .carry))
     adds =
         let e : 2 + (suc k * 5 + (1 + (suc k * 9 + 1))) ≡ 14 * suc k + 4 = omega arith in
-        told shipped local e refl
-        (on shipped local right begun
-        (then shipped local (good shipped local tests main (f .fits) (suc k) c none k a b (omega (arith, f .few)) (f .in-a) (f .in-b) db da)
-        (then shipped local (between local main (suc k) c none (a + suc k) (b + suc k) (omega (arith, f .few)))
-        (then shipped local (all (plain local) a b (suc k) k at-first (omega (arith, f .few)) fits) (at-last local (at-end .main) (suc k) (at-end .carry) (at-end .status) a b)))))
+        told fence shipped local e refl
+        (on fence shipped local right begun
+        (then fence shipped local (good fence shipped local tests main (f .fits) (suc k) c none k a b (omega (arith, f .few)) (f .in-a) (f .in-b) db da)
+        (then fence shipped local (between fence local main (suc k) c none (a + suc k) (b + suc k) (omega (arith, f .few)))
+        (then fence shipped local (all (plain fence local) a b (suc k) k at-first (omega (arith, f .few)) fits) (at-last fence local (at-end .main) (suc k) (at-end .carry) (at-end .status) a b)))))
 
     pub sum-stands : Stands false a (suc k) main (at-end .main) (value main a (suc k)) (value main b (suc k)) c (at-end .carry)
     unfolding plain
     sum-stands =
-        stands (plain local) false true (λ (m : Marks). m .s0 ≡ false) (λ m off x y c. rw off) (λ m r off. off) a b (suc k) at-first refl fits (field-sound main a (suc k) da) (field-sound main b (suc k) db)
+        stands (plain fence local) false true (λ (m : Marks). m .s0 ≡ false) (λ m off x y c. rw off) (λ m r off. off) a b (suc k) at-first refl fits (field-sound main a (suc k) da) (field-sound main b (suc k) db)
 
   -- where one is not
-  pub spots : decimalField main a (suc k) && decimalField main b (suc k) ≡ false → Refuses shipped local SUMMED (2 + untilBad main a b (suc k)) (machine (start a b (suc k) c) main local) main
-  spots d = on-refuses shipped local right begun (bad shipped local tests main (f .fits) (suc k) c none SUMMED refl refl k a b (omega (arith, f .few)) (f .in-a) (f .in-b) d)
+  pub spots : decimalField main a (suc k) && decimalField main b (suc k) ≡ false → Refuses fence shipped local SUMMED (2 + untilBad main a b (suc k)) (machine (start a b (suc k) c) main local) main
+  spots d = on-refuses fence shipped local right begun (bad fence shipped local tests main (f .fits) (suc k) c none SUMMED refl refl k a b (omega (arith, f .few)) (f .in-a) (f .in-b) d)
 
 -- the first pass is short
 pub until-le : (main : List ℕ) (n a b : ℕ) → untilBad main a b n ≤ 5 * n

@@ -8,9 +8,11 @@ use Rattle.digits.specs.Bits.{bit, withBit}
 use Rattle.digits.specs.Refusal.{Check, first, answer}
 use Rattle.digits.specs.Sizes.{storageWrong}
 use Rattle.codes.specs.declared.Reading.the-variants.{Basic}
+use Rattle.storage.specs.Storage.{whole}
+use Rattle.storage.specs.declared.Fence.{Fence}
 use Rattle.machine.specs.Cycle.{Outcome, outcome}
 use Rattle.machine.specs.declared.State.{State}
-use Rattle.run.specs.Run.{runOf}
+use Rattle.run.specs.Run.{runIn}
 use Rattle.run.specs.declared.Finished.{Finished}
 use Rattle.decimal.specs.Program.{shipped}
 use Rattle.decimal.specs.declared.Added.{Added}
@@ -24,14 +26,21 @@ decimalLengthWrong n = ltb n 1 || ltb 16 n
 abbrev pub pastEnd : ℕ → ℕ → ℕ → Bool
 pastEnd main start n = ltb main (start + n)
 
+-- "13 covers a field not wholly in the fence"
+abbrev pub notWithin : Fence → ℕ → ℕ → ℕ → Bool
+notWithin fence main start n = pastEnd main start n || (ltb start (fence .start) || pastEnd (fence .end) start n)
+
 -- 14: "decimal fields overlap and do not start together"
 abbrev pub overlap : ℕ → ℕ → ℕ → Bool
 overlap a b n = not (eqb a b) && (ltb a (b + n) && ltb b (a + n))
 
--- "The decimal entry checks 1 (main and local), 12, 13, 14. One length serves both fields, a start is a field's lowest address"
-abbrev pub addChecks : ℕ → ℕ → ℕ → ℕ → ℕ → List Check
-addChecks main local a b n =
-    (1, storageWrong main local) ∷ (12, decimalLengthWrong n) ∷ (13, pastEnd main a n || pastEnd main b n) ∷ (14, overlap a b n) ∷ []
+-- "One length serves both fields, a start is a field's lowest address"
+abbrev pub fieldChecks : Fence → ℕ → ℕ → ℕ → ℕ → List Check
+fieldChecks fence main a b n = (12, decimalLengthWrong n) ∷ (13, notWithin fence main a n || notWithin fence main b n) ∷ (14, overlap a b n) ∷ []
+
+-- "The decimal entry checks 1 (main and local), 12, 13, 14."
+abbrev pub addChecks : Fence → ℕ → ℕ → ℕ → ℕ → ℕ → List Check
+addChecks fence main local a b n = (1, storageWrong main local) ∷ fieldChecks fence main a b n
 
 -- "from WX 0 with latches off, nothing arriving, main selected, and all registers zero but those that carry addresses, length and carry":
 -- the first field's start in I and J, the second's in U and V, the length in L, and this in S
@@ -75,8 +84,8 @@ abbrev pub bound : ℕ → ℕ
 bound n = 40 * n + 40
 
 -- "It then runs the shipped words"; "the shipped programs are run under basic"
-abbrev pub runFor : List ℕ → List ℕ → ℕ → ℕ → ℕ → Bool → Outcome Finished
-runFor main local a b n carry = runOf (bound n) Basic shipped main local (start a b n carry)
+abbrev pub runFor : Fence → List ℕ → List ℕ → ℕ → ℕ → ℕ → Bool → Outcome Finished
+runFor fence main local a b n carry = runIn (bound n) fence Basic shipped main local (start a b n carry)
 
 -- "it answers summed with the carry from S3, or bad digit, by the word it stopped at": summed at this one
 abbrev pub answeredAt : ℕ → Finished → Added
@@ -86,15 +95,22 @@ answeredAt done f = cond (eqb (f .state .wx) done) (Summed (bit (f .state .s) 3)
 abbrev pub fromRun : ℕ → Outcome Finished → Outcome Added
 fromRun done r = outcome (answeredAt done (r .answer)) (r .main) (r .local)
 
--- an entry, by its run: refused, nothing is touched
-abbrev pub entryOf : ℕ → Outcome Finished → List ℕ → List ℕ → ℕ → ℕ → ℕ → Outcome Added
-entryOf done run main local a b n =
-    answer (first (addChecks (length main) (length local) a b n)) (λ (number : ℕ). outcome (Refused number) main local) (fromRun done run)
+-- an entry, by its checks and its run: refused, nothing is touched
+abbrev pub entryBy : ℕ → List Check → Outcome Finished → List ℕ → List ℕ → Outcome Added
+entryBy done checks run main local = answer (first checks) (λ (number : ℕ). outcome (Refused number) main local) (fromRun done run)
+
+-- an entry in a fence
+abbrev pub entryOf : ℕ → Fence → Outcome Finished → List ℕ → List ℕ → ℕ → ℕ → ℕ → Outcome Added
+entryOf done fence run main local a b n = entryBy done (addChecks fence (length main) (length local) a b n) run main local
 
 -- the shipped words' stop for summed
 abbrev pub SUMMED : ℕ
 SUMMED = 0x14
 
--- the decimal entry
-unfoldable pub addOf : List ℕ → List ℕ → ℕ → ℕ → ℕ → Bool → Outcome Added
-addOf main local a b n carry = entryOf SUMMED (runFor main local a b n carry) main local a b n
+-- the decimal entry in a fence
+unfoldable pub addIn : Fence → List ℕ → List ℕ → ℕ → ℕ → ℕ → Bool → Outcome Added
+addIn fence main local a b n carry = entryOf SUMMED fence (runFor fence main local a b n carry) main local a b n
+
+-- the decimal entry: all main storage is in the fence
+abbrev pub addOf : List ℕ → List ℕ → ℕ → ℕ → ℕ → Bool → Outcome Added
+addOf main local a b n carry = addIn whole main local a b n carry

@@ -7,7 +7,9 @@ use mathlib.Core.Logic.{_⊎_, _↔_}
 use lib.ListN.{length, getD}
 use Rattle.digits.specs.Bits.{one}
 use Rattle.digits.specs.Digits.{bothDecimal}
-use Rattle.digits.specs.Refusal.{first, Given}
+use Rattle.digits.specs.Refusal.{Check, first, Given}
+use Rattle.storage.specs.Storage.{whole}
+use Rattle.storage.specs.declared.Fence.{Fence}
 use Rattle.machine.specs.Cycle.{Outcome}
 use Rattle.run.specs.declared.Ending.the-variants.{Stopped}
 use Rattle.run.specs.declared.Finished.{Finished}
@@ -62,24 +64,31 @@ pub record Untouched (main local main′ local′ : List ℕ) : Type 0 where
 abbrev pub bothFields : List ℕ → ℕ → ℕ → ℕ → Bool
 bothFields main a b n = decimalField main a n && decimalField main b n
 
--- none of 1, 12, 13, 14 is given
-abbrev pub Accepted : List ℕ → List ℕ → ℕ → ℕ → ℕ → Type 0
-Accepted main local a b n = first (addChecks (length main) (length local) a b n) ≡ 0
+-- no number of the entry's list is given
+abbrev pub Accepted : List Check → Type 0
+Accepted checks = first checks ≡ 0
 
--- what an entry promises, whatever its words: a and b are the fields' starts, n their length, r the answer, main′ and local′ the storages afterwards;
--- by its run, whether both fields are good, and what it then leaves
-pub record Keeps (run : Outcome Finished) (good : Bool) (Good Bad : Added → List ℕ → List ℕ → Type 0) (main local : List ℕ) (a b n : ℕ) (r : Added) (main′ local′ : List ℕ) : Type 0 where
+-- what an entry promises, whatever its words: n is the fields' length, r the answer, main′ and local′ the storages afterwards; by its checks, its
+-- run, whether both fields are good, and what it then leaves
+pub record Keeps (checks : List Check) (run : Outcome Finished) (good : Bool) (Good Bad : Added → List ℕ → List ℕ → Type 0) (main local : List ℕ) (n : ℕ) (r : Added) (main′ local′ : List ℕ) : Type 0 where
   -- each number is given exactly when the list of checks gives it, and then nothing is touched
-  pub refused : (number : ℕ) → (r ≡ Refused number) ↔ Given number (addChecks (length main) (length local) a b n)
+  pub refused : (number : ℕ) → (r ≡ Refused number) ↔ Given number checks
   pub untouched : (number : ℕ) → r ≡ Refused number → Untouched main local main′ local′
   -- accepted, it comes to one of two ends
-  pub sums : Accepted main local a b n → good ≡ true → Good r main′ local′
-  pub bad : Accepted main local a b n → good ≡ false → Bad r main′ local′
+  pub sums : Accepted checks → good ≡ true → Good r main′ local′
+  pub bad : Accepted checks → good ≡ false → Bad r main′ local′
   -- it stops in every case: budget spent cannot be the answer
-  pub stops : Accepted main local a b n → run .answer .ending ≡ Stopped
+  pub stops : Accepted checks → run .answer .ending ≡ Stopped
   -- at most 40 cycles a byte and 40 more
   pub few : cyclesIn r ≤ bound n
 
+-- the decimal entry's, by its checks and its fence; a and b are the fields' starts
+abbrev pub PromiseBy : List Check → Fence → List ℕ → List ℕ → ℕ → ℕ → ℕ → Bool → Added → List ℕ → List ℕ → Type 0
+PromiseBy checks fence main local a b n carry r main′ local′ =
+    Keeps checks (runFor fence main local a b n carry) (bothFields main a b n) (Sums main local a b n carry) (Bad (2 + untilBad main a b n) main local) main local n r main′ local′
+
+abbrev pub PromiseOf : Fence → List ℕ → List ℕ → ℕ → ℕ → ℕ → Bool → Added → List ℕ → List ℕ → Type 0
+PromiseOf fence main local a b n carry r main′ local′ = PromiseBy (addChecks fence (length main) (length local) a b n) fence main local a b n carry r main′ local′
+
 abbrev pub Promise : List ℕ → List ℕ → ℕ → ℕ → ℕ → Bool → Added → List ℕ → List ℕ → Type 0
-Promise main local a b n carry r main′ local′ =
-    Keeps (runFor main local a b n carry) (bothFields main a b n) (Sums main local a b n carry) (Bad (2 + untilBad main a b n) main local) main local a b n r main′ local′
+Promise main local a b n carry r main′ local′ = PromiseOf whole main local a b n carry r main′ local′

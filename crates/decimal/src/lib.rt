@@ -5,13 +5,14 @@ ghost use lib.ListN.{length};
 ghost use Rattle.digits.specs.Refusal.{first};
 ghost use Rattle.machine.specs.Cycle.{outcome};
 ghost use Rattle.decimal.specs.Program.{shipped};
-ghost use Rattle.run.specs.Run.{runOf};
+ghost use Rattle.run.specs.Run.{runIn};
 ghost use Rattle.codes.specs.declared.Reading.the-variants.{Basic};
-ghost use Rattle.decimal.specs.Entry.{pastEnd, overlap, addChecks, startWith, start, bound, answeredAt, entryOf, addOf};
-ghost use Rattle.decimal.specs.Promise.{Promise};
+ghost use Rattle.decimal.specs.Entry.{pastEnd, notWithin, overlap, addChecks, startWith, start, bound, answeredAt, entryOf, addIn, addOf};
+ghost use Rattle.decimal.specs.Promise.{PromiseOf, Promise};
 use codes::Reading;
 use machine::State;
 use run::Finished;
+use storage::Fence;
 
 // Summed has the carry and the count of cycles, a bad digit the count, a refusal its number.
 pub enum Added {
@@ -55,7 +56,7 @@ pub fn words() -> [u64; 21]
     WORDS
 }
 
-// 13, of one field: on any numbers, so the sum is not formed.
+// A field ends past a place: on any numbers, so the sum is not formed.
 fn past_end(main: usize, start: usize, length: usize) -> bool
     ensures { λ r. ⌜ r ≡ pastEnd main start length ⌝ }
 {
@@ -63,6 +64,14 @@ fn past_end(main: usize, start: usize, length: usize) -> bool
         return true;
     }
     main - length < start
+}
+
+// 13, of one field: it is not wholly in main storage and in the fence.
+fn not_within(fence: Fence, main: usize, start: usize, length: usize) -> bool
+    ensures { λ r. ⌜ r ≡ notWithin fence main start length ⌝ }
+{
+    let past = past_end(main, start, length);
+    past | ((start < fence.start) | past_end(fence.end, start, length))
 }
 
 // How far apart two addresses are.
@@ -80,11 +89,11 @@ fn overlap(a: usize, b: usize, length: usize) -> bool
 }
 
 // 1, 12, 13, 14, or 0.
-fn refusal(main: usize, local: usize, a: usize, b: usize, length: usize) -> u8
-    ensures { λ r. ⌜ r ≡ first (addChecks main local a b length) ⌝ }
+fn refusal(fence: Fence, main: usize, local: usize, a: usize, b: usize, length: usize) -> u8
+    ensures { λ r. ⌜ r ≡ first (addChecks fence main local a b length) ⌝ }
 {
     let fourteen = digits::first_of(overlap(a, b, length), 14, 0);
-    let outside = past_end(main, a, length) | past_end(main, b, length);
+    let outside = not_within(fence, main, a, length) | not_within(fence, main, b, length);
     let thirteen = digits::first_of(outside, 13, fourteen);
     let twelve = digits::first_of((length < 1) | (16 < length), 12, thirteen);
     digits::first_of(digits::storage_wrong(main, local), 1, twelve)
@@ -141,8 +150,9 @@ pub fn answered_at(f: Finished, done: u16) -> Added
     Added::BadDigit(count)
 }
 
-// An entry: the checks, then the run of a program's words over the two fields, with this in S.
+// An entry in a fence: the checks, then the run of a program's words over the two fields, with this in S.
 pub fn entry(
+    fence: Fence,
     store: &[u64],
     main: &mut [u8],
     local: &mut [u8],
@@ -152,19 +162,46 @@ pub fn entry(
     status: u8,
     done: u16,
 ) -> Added
-    ensures { λ r. ⌜ outcome r (now (main .exit)) (now (local .exit)) ≡ entryOf done (runOf (bound length) Basic (now (store .entry)) (now (main .entry)) (now (local .entry)) (startWith first second length status)) (now (main .entry)) (now (local .entry)) first second length ⌝ }
+    ensures { λ r. ⌜ outcome r (now (main .exit)) (now (local .exit)) ≡ entryOf done fence (runIn (bound length) fence Basic (now (store .entry)) (now (main .entry)) (now (local .entry)) (startWith first second length status)) (now (main .entry)) (now (local .entry)) first second length ⌝ }
 {
-    let number = refusal(main.len(), local.len(), first, second, length);
+    let number = refusal(fence, main.len(), local.len(), first, second, length);
     if number != 0 {
         return Added::Refused(number);
     }
     let state = start_with(first as u16, second as u16, length as u8, status);
     let budget = 40 * (length as u32) + 40;
-    let finished = run::run(Reading::Basic, store, main, local, state, budget);
+    let finished = run::run_in(fence, Reading::Basic, store, main, local, state, budget);
     answered_at(finished, done)
 }
 
-// The first field becomes the sum of both, with the carry. Storage and count are those of the run of the shipped words.
+// In a fence the first field becomes the sum of both, with the carry. Storage and count are those of the run of the shipped words.
+pub fn add_in(
+    fence: Fence,
+    main: &mut [u8],
+    local: &mut [u8],
+    first: usize,
+    second: usize,
+    length: usize,
+    carry: bool,
+) -> Added
+    ensures run { λ r. ⌜ outcome r (now (main .exit)) (now (local .exit)) ≡ addIn fence (now (main .entry)) (now (local .entry)) first second length carry ⌝ }
+    ensures promise { λ r. ⌜ PromiseOf fence (now (main .entry)) (now (local .entry)) first second length carry r (now (main .exit)) (now (local .exit)) ⌝ }
+{
+    let status = digits::with_bit(0, 3, carry);
+    entry(
+        fence,
+        &words(),
+        main,
+        local,
+        first,
+        second,
+        length,
+        status,
+        SUMMED,
+    )
+}
+
+// The same with all main storage in the fence.
 pub fn add(
     main: &mut [u8],
     local: &mut [u8],
@@ -176,6 +213,9 @@ pub fn add(
     ensures run { λ r. ⌜ outcome r (now (main .exit)) (now (local .exit)) ≡ addOf (now (main .entry)) (now (local .entry)) first second length carry ⌝ }
     ensures promise { λ r. ⌜ Promise (now (main .entry)) (now (local .entry)) first second length carry r (now (main .exit)) (now (local .exit)) ⌝ }
 {
-    let status = digits::with_bit(0, 3, carry);
-    entry(&words(), main, local, first, second, length, status, SUMMED)
+    let whole = Fence {
+        start: 0,
+        end: 65536,
+    };
+    add_in(whole, main, local, first, second, length, carry)
 }

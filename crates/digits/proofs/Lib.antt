@@ -2,6 +2,7 @@ pub mod Truth
 pub mod Bits
 pub mod Lines
 pub mod Table
+pub mod Arms
 pub mod Refusals
 pub mod Sizes
 pub mod Copies

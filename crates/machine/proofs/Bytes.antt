@@ -23,12 +23,14 @@ use Rattle.adder.specs.declared.Sum.{Sum}
 use Rattle.adder.proofs.Laws.{sum-byte}
 use Rattle.machine.specs.Sources.{entered, aSource, aSources, bSource, bSources, controlsOf, sumIn}
 use Rattle.machine.specs.Branch.{testedOf, wOf, xOf, nextOf}
-use Rattle.machine.specs.Storage.{readsLocal, accesses, accessOf, idle, fetchedOf, mainAddress}
+use Rattle.storage.specs.Storage.{readsLocal, accesses, accessOf, idle, fetchedOf, mainAddress}
 use Rattle.machine.specs.Status.{into, saves, statusOf}
-use Rattle.machine.specs.Cycle.{stops, cycleChecks, wordAt, after, ranOf, decided, cycleOf}
+use Rattle.machine.specs.Cycle.{stops, seenOf, accessIn, cycleChecks, wordAt, after, ranOf, decided, cycleIn}
 use Rattle.machine.specs.declared.Cycled.the-variants.{Ran}
 use Rattle.machine.specs.declared.State.{State}
-use Rattle.machine.specs.declared.Access.{Access}
+use Rattle.storage.specs.declared.Access.{Access}
+use Rattle.storage.specs.declared.Fence.{Fence}
+use Rattle.storage.specs.declared.Seen.{Seen}
 
 abbrev pub Byte : ℕ → Type 0
 Byte n = n < 256
@@ -102,17 +104,18 @@ pub record Addressed (a : Access) : Type 0 where
   pub m : Byte (a .m)
   pub n : Byte (a .n)
 
-pub access-bytes : (f : Fields) (s : State) → Bytes s → Addressed (accessOf f s)
+pub access-bytes : (f : Fields) (s : State) → Bytes s → Addressed (accessOf f (seenOf s))
 unfolding accessOf
 access-bytes f s b =
-    let there : Addressed (idle s) = record { m = b .m; n = b .n } in
-    any Addressed (accesses (readsLocal (f .cu) s) s) (idle s) (
+    let x : Seen = seenOf s in
+    let there : Addressed (idle x) = record { m = b .m; n = b .n } in
+    any Addressed (accesses (readsLocal (f .cu) x) x) (idle x) (
       record { m = b .m; n = b .n },
       (
         record { m = b .m; n = b .n },
         (
           record { m = b .m; n = b .n },
-          (record { m = b .i; n = b .j }, (record { m = b .u; n = b .v }, (record { m = below (readsLocal (f .cu) s) (s .m) (s .l) (b .m) (b .l); n = b .t }, tt))),
+          (record { m = b .i; n = b .j }, (record { m = b .u; n = b .v }, (record { m = below (readsLocal (f .cu) x) (s .m) (s .l) (b .m) (b .l); n = b .t }, tt))),
         ),
       ),
     ) there (f .cm)
@@ -213,7 +216,7 @@ ran-sound : (reading : Reading) (f : Fields) (main local : List ℕ) (s t : Stat
 unfolding ranOf
 ran-sound reading f main local s t cn ca ck h e =
     let b = entered-bytes f s (h .registers) in
-    let a : Access = accessOf f (entered f s) in
+    let a : Access = accessIn f s in
     let is : after reading f (sumIn f (entered f s)) a (fetchedOf main local a) (entered f s) ≡ t = cc in
     record {
       registers = subst Bytes is
@@ -229,9 +232,9 @@ decided-sound reading (suc n) stop f main local s t cn ca ck h e = absurd (zero-
 decided-sound reading zero true f main local s t cn ca ck h e = absurd (zero-one cc)
 decided-sound reading zero false f main local s t cn ca ck h e = ran-sound reading f main local s t cn ca ck h e
 
-pub bytes-stay : (reading : Reading) (store main local : List ℕ) (s t : State) → Sound s main local → cycleOf reading store main local s .answer ≡ Ran t
-    → Sound t (cycleOf reading store main local s .main) (cycleOf reading store main local s .local)
-unfolding cycleOf
-bytes-stay reading store main local s t h e =
+pub bytes-stay : (fence : Fence) (reading : Reading) (store main local : List ℕ) (s t : State) → Sound s main local → cycleIn fence reading store main local s .answer ≡ Ran t
+    → Sound t (cycleIn fence reading store main local s .main) (cycleIn fence reading store main local s .local)
+unfolding cycleIn
+bytes-stay fence reading store main local s t h e =
     let f : Fields = fieldsOf (wordAt store s) in
-    decided-sound reading (first (cycleChecks reading store main local s)) (stops f) f main local s t (omega arith) (omega arith) (omega arith) h e
+    decided-sound reading (first (cycleChecks fence reading store main local s)) (stops f) f main local s t (omega arith) (omega arith) (omega arith) h e

@@ -21,16 +21,18 @@ use Rattle.word.specs.declared.Apart.the-variants as A
 use Rattle.word.specs.declared.Fields.{Fields}
 use Rattle.codes.specs.Modelled.{codeRows, rowCheck, unmodelledOf}
 use Rattle.codes.specs.declared.Reading.{Reading}
-use Rattle.machine.specs.Cycle.{Outcome, outcome, stops, stepChecks, cycleChecks, wordAt, ranOf, fieldOf, decided, cycleOf, refusalNumber, nextSumOf}
+use Rattle.machine.specs.Cycle.{Outcome, outcome, stops, accessIn, stepChecks, cycleChecks, wordAt, ranOf, fieldOf, decided, cycleIn, refusalNumber, nextSumOf}
 use Rattle.machine.specs.Sources.{entered, workIn}
-use Rattle.machine.specs.Storage.{mainAddress, accessOf}
+use Rattle.storage.specs.Storage.{mainAddress}
 use Rattle.machine.specs.declared.State.{State}
-use Rattle.machine.specs.declared.Access.{Access}
+use Rattle.storage.specs.declared.Access.{Access}
+use Rattle.storage.specs.declared.Fence.{Fence}
 use Rattle.machine.specs.declared.Cycled.{Cycled}
 use Rattle.machine.specs.declared.Cycled.the-variants.{Ran, Stopped, Refused}
 use Rattle.machine.specs.declared.NextSum.{NextSum}
 use Rattle.machine.specs.declared.NextSum.the-variants.{Sums}
 use Rattle.machine.proofs.Cycles.{address-fits}
+use Rattle.machine.proofs.cycle_in.Reads as cycle-in
 use Rattle.machine.proofs.cycle.Reads as cycle
 use Rattle.machine.proofs.next_sum.Reads as next-sum
 
@@ -51,17 +53,17 @@ ran-number : (reading : Reading) (f : Fields) (main local : List ℕ) (s : State
 unfolding ranOf
 ran-number reading f main local s = refl
 
-decided-number : (reading : Reading) (n : ℕ) (stop : Bool) (f : Fields) (main local : List ℕ) (s : State) → refusalNumber (decided reading n stop f main local s .answer) ≡ n
+pub decided-number : (reading : Reading) (n : ℕ) (stop : Bool) (f : Fields) (main local : List ℕ) (s : State) → refusalNumber (decided reading n stop f main local s .answer) ≡ n
 decided-number reading (suc n) stop f main local s = refl
 decided-number reading zero true f main local s = refl
 decided-number reading zero false f main local s = ran-number reading f main local s
 
-pub cycle-exactly : (reading : Reading) (store main local : List ℕ) (s : State) (n : ℕ) → (refusalNumber (cycleOf reading store main local s .answer) ≡ suc n) ↔ Given (suc n) (cycleChecks reading store main local s)
-unfolding cycleOf
-cycle-exactly reading store main local s n =
+pub cycle-exactly : (fence : Fence) (reading : Reading) (store main local : List ℕ) (s : State) (n : ℕ) → (refusalNumber (cycleIn fence reading store main local s .answer) ≡ suc n) ↔ Given (suc n) (cycleChecks fence reading store main local s)
+unfolding cycleIn
+cycle-exactly fence reading store main local s n =
     let f : Fields = fieldsOf (wordAt store s) in
-    let is = decided-number reading (first (cycleChecks reading store main local s)) (stops f) f main local s in
-    (λ e. first-given (cycleChecks reading store main local s) n (sym is ∙ e), λ g. is ∙ given-first (cycleChecks reading store main local s) (suc n) g)
+    let is = decided-number reading (first (cycleChecks fence reading store main local s)) (stops f) f main local s in
+    (λ e. first-given (cycleChecks fence reading store main local s) n (sym is ∙ e), λ g. is ∙ given-first (cycleChecks fence reading store main local s) (suc n) g)
 
 -- ---- exactly when a cycle stops, and when it runs: no number is given, and the word stops or does not
 
@@ -76,48 +78,48 @@ module _ (reading : Reading) (f : Fields) (main local : List ℕ) (s t : State) 
   decided-ran zero true e = absurd (zero-one cc)
   decided-ran zero false e = (refl, refl)
 
-module _ (reading : Reading) (store main local : List ℕ) (s : State) where
-  pub stopped-exactly : (cycleOf reading store main local s .answer ≡ Stopped s) ↔ (None (cycleChecks reading store main local s) × (stops (fieldsOf (wordAt store s)) ≡ true))
-  unfolding cycleOf
+module _ (fence : Fence) (reading : Reading) (store main local : List ℕ) (s : State) where
+  pub stopped-exactly : (cycleIn fence reading store main local s .answer ≡ Stopped s) ↔ (None (cycleChecks fence reading store main local s) × (stops (fieldsOf (wordAt store s)) ≡ true))
+  unfolding cycleIn
   stopped-exactly =
       let f : Fields = fieldsOf (wordAt store s) in
-      let cs : List Check = cycleChecks reading store main local s in (
+      let cs : List Check = cycleChecks fence reading store main local s in (
         λ e. let (none, stop) = decided-stopped reading f main local s s (first cs) (stops f) e in (first-none cs tt none, stop),
         λ h. λ i. decided reading (none-first cs (h .0) i) (h .1 i) f main local s .answer,
       )
 
-  pub ran-exactly : ((t : State) × (cycleOf reading store main local s .answer ≡ Ran t)) ↔ (None (cycleChecks reading store main local s) × (stops (fieldsOf (wordAt store s)) ≡ false))
-  unfolding cycleOf
+  pub ran-exactly : ((t : State) × (cycleIn fence reading store main local s .answer ≡ Ran t)) ↔ (None (cycleChecks fence reading store main local s) × (stops (fieldsOf (wordAt store s)) ≡ false))
+  unfolding cycleIn
   ran-exactly =
       let f : Fields = fieldsOf (wordAt store s) in
-      let cs : List Check = cycleChecks reading store main local s in (
+      let cs : List Check = cycleChecks fence reading store main local s in (
         λ w. let (none, on) = decided-ran reading f main local s (w .0) (first cs) (stops f) (w .1) in (first-none cs tt none, on),
         λ h. let (t, r) = ran-ran reading f main local s in (t, (λ i. decided reading (none-first cs (h .0) i) (h .1 i) f main local s .answer) ∙ r),
       )
 
   -- what it then does is what the fields of its word do
-  pub ran-fields : (t : State) → cycleOf reading store main local s .answer ≡ Ran t → cycleOf reading store main local s ≡ ranOf reading (fieldsOf (wordAt store s)) main local s
-  unfolding cycleOf
+  pub ran-fields : (t : State) → cycleIn fence reading store main local s .answer ≡ Ran t → cycleIn fence reading store main local s ≡ ranOf reading (fieldsOf (wordAt store s)) main local s
+  unfolding cycleIn
   ran-fields t e =
       let f : Fields = fieldsOf (wordAt store s) in
       let (none, on) = ran-exactly .0 (t, e) in
-      λ i. decided reading (none-first (cycleChecks reading store main local s) none i) (on i) f main local s
+      λ i. decided reading (none-first (cycleChecks fence reading store main local s) none i) (on i) f main local s
 
 -- ---- what is shown of the word that would run next is the work of its cycle
 
-module _ (reading : Reading) (store main local : List ℕ) (s : State) where
-  apart-is : None (cycleChecks reading store main local s) → takenApart (wordAt store s) (s .wx) ≡ A.Fields (fieldsOf (wordAt store s))
+module _ (fence : Fence) (reading : Reading) (store main local : List ℕ) (s : State) where
+  apart-is : None (cycleChecks fence reading store main local s) → takenApart (wordAt store s) (s .wx) ≡ A.Fields (fieldsOf (wordAt store s))
   unfolding takenApart
   apart-is none =
       let faults : List Check = faultChecks (wordAt store s) (s .wx) (lineOf (wordAt store s)) in
-      let (good, rest) = each-split (λ (c : Check). c .1 ≡ false) faults (stepChecks reading (fieldsOf (wordAt store s)) (length main) s) (none .1 .1) in
+      let (good, rest) = each-split (λ (c : Check). c .1 ≡ false) faults (stepChecks fence reading (fieldsOf (wordAt store s)) (length main) s) (none .1 .1) in
       accepts A.Refused (A.Fields (fieldsOf (wordAt store s))) (first (apartChecks (wordAt store s) (s .wx) (lineOf (wordAt store s))))
       (rw (le-ltb 4095 (s .wx) (address-fits (length store) (length main) (length local) (s .wx) (none .0) (none .1 .0))) (none-first faults good))
 
-  pub ran-shown : (t : State) → cycleOf reading store main local s .answer ≡ Ran t → nextSumOf store s ≡ Sums (workIn (fieldsOf (wordAt store s)) (entered (fieldsOf (wordAt store s)) s))
+  pub ran-shown : (t : State) → cycleIn fence reading store main local s .answer ≡ Ran t → nextSumOf store s ≡ Sums (workIn (fieldsOf (wordAt store s)) (entered (fieldsOf (wordAt store s)) s))
   unfolding nextSumOf
   ran-shown t e =
-      let (none, on) = ran-exactly reading store main local s .0 (t, e) in
+      let (none, on) = ran-exactly fence reading store main local s .0 (t, e) in
       rw (none .1 .0, apart-is none, on)
 
 -- ---- what a refusal and a stop leave: everything
@@ -139,18 +141,18 @@ module _ (reading : Reading) (f : Fields) (main local : List ℕ) (s t : State) 
   stopped-keeps zero true e = record { state = cc; in-main = refl; in-local = refl }
   stopped-keeps zero false e = absurd (ran-not-stopped reading f main local s t e)
 
-module _ (reading : Reading) (store main local : List ℕ) (s t : State) where
-  pub refusal-keeps : (n g : ℕ) → cycleOf reading store main local s .answer ≡ Refused t n g → Kept main local s t (cycleOf reading store main local s)
-  unfolding cycleOf
+module _ (fence : Fence) (reading : Reading) (store main local : List ℕ) (s t : State) where
+  pub refusal-keeps : (n g : ℕ) → cycleIn fence reading store main local s .answer ≡ Refused t n g → Kept main local s t (cycleIn fence reading store main local s)
+  unfolding cycleIn
   refusal-keeps n g e =
       let f : Fields = fieldsOf (wordAt store s) in
-      refused-keeps reading f main local s t (first (cycleChecks reading store main local s)) (stops f) n g e
+      refused-keeps reading f main local s t (first (cycleChecks fence reading store main local s)) (stops f) n g e
 
-  pub stop-keeps : cycleOf reading store main local s .answer ≡ Stopped t → Kept main local s t (cycleOf reading store main local s)
-  unfolding cycleOf
+  pub stop-keeps : cycleIn fence reading store main local s .answer ≡ Stopped t → Kept main local s t (cycleIn fence reading store main local s)
+  unfolding cycleIn
   stop-keeps e =
       let f : Fields = fieldsOf (wordAt store s) in
-      stopped-keeps reading f main local s t (first (cycleChecks reading store main local s)) (stops f) e
+      stopped-keeps reading f main local s t (first (cycleChecks fence reading store main local s)) (stops f) e
 
 -- ---- the storages keep their sizes, whatever the answer
 
@@ -166,7 +168,7 @@ ran-sizes : (reading : Reading) (f : Fields) (main local : List ℕ) (s : State)
 unfolding ranOf
 ran-sizes reading f main local s =
     let e : State = entered f s in
-    let a : Access = accessOf f e in
+    let a : Access = accessIn f s in
     record { of-main = put-size main (mainAddress a) (e .r) (a .puts && not (a .local)); of-local = put-size local (a .n) (e .r) (a .puts && a .local) }
 
 decided-sizes : (reading : Reading) (n : ℕ) (stop : Bool) (f : Fields) (main local : List ℕ) (s : State) → SameSizes main local (decided reading n stop f main local s)
@@ -174,28 +176,28 @@ decided-sizes reading (suc n) stop f main local s = record { of-main = refl; of-
 decided-sizes reading zero true f main local s = record { of-main = refl; of-local = refl }
 decided-sizes reading zero false f main local s = ran-sizes reading f main local s
 
-pub sizes-stay : (reading : Reading) (store main local : List ℕ) (s : State) → SameSizes main local (cycleOf reading store main local s)
-unfolding cycleOf
-sizes-stay reading store main local s = decided-sizes reading (first (cycleChecks reading store main local s)) (stops (fieldsOf (wordAt store s))) (fieldsOf (wordAt store s)) main local s
+pub sizes-stay : (fence : Fence) (reading : Reading) (store main local : List ℕ) (s : State) → SameSizes main local (cycleIn fence reading store main local s)
+unfolding cycleIn
+sizes-stay fence reading store main local s = decided-sizes reading (first (cycleChecks fence reading store main local s)) (stops (fieldsOf (wordAt store s))) (fieldsOf (wordAt store s)) main local s
 
 -- with wrong sizes a cycle is refused by 1
-pub refused-by-1 : (reading : Reading) (store main local : List ℕ) (s : State) → sizesWrong (length store) (length main) (length local) ≡ true → outcome (Refused s 1 0) main local ≡ cycleOf reading store main local s
-unfolding cycleOf
-refused-by-1 reading store main local s wrong = rw wrong
+pub refused-by-1 : (fence : Fence) (reading : Reading) (store main local : List ℕ) (s : State) → sizesWrong (length store) (length main) (length local) ≡ true → outcome (Refused s 1 0) main local ≡ cycleIn fence reading store main local s
+unfolding cycleIn
+refused-by-1 fence reading store main local s wrong = rw wrong
 
 -- with right ones it is not; and 22 is given by no cycle
-pub never-1 : (reading : Reading) (store main local : List ℕ) (s : State) → sizesWrong (length store) (length main) (length local) ≡ false → refusalNumber (cycleOf reading store main local s .answer) ≡ 1 → ⊥
-unfolding cycleOf
-never-1 reading store main local s right e =
+pub never-1 : (fence : Fence) (reading : Reading) (store main local : List ℕ) (s : State) → sizesWrong (length store) (length main) (length local) ≡ false → refusalNumber (cycleIn fence reading store main local s .answer) ≡ 1 → ⊥
+unfolding cycleIn
+never-1 fence reading store main local s right e =
     let f : Fields = fieldsOf (wordAt store s) in
-    let later : List Check = (2, leb (length store) (s .wx)) ∷ (faultChecks (wordAt store s) (s .wx) (lineOf (wordAt store s)) ++ stepChecks reading f (length main) s) in
-    never 1 later tt (λ z. omega arith) (ap (λ (b : Bool). cond b 1 (first later)) (sym right) ∙ sym (decided-number reading (first (cycleChecks reading store main local s)) (stops f) f main local s) ∙ e)
+    let later : List Check = (2, leb (length store) (s .wx)) ∷ (faultChecks (wordAt store s) (s .wx) (lineOf (wordAt store s)) ++ stepChecks fence reading f (length main) s) in
+    never 1 later tt (λ z. omega arith) (ap (λ (b : Bool). cond b 1 (first later)) (sym right) ∙ sym (decided-number reading (first (cycleChecks fence reading store main local s)) (stops f) f main local s) ∙ e)
 
-pub never-22 : (reading : Reading) (store main local : List ℕ) (s : State) → refusalNumber (cycleOf reading store main local s .answer) ≡ 22 → ⊥
-unfolding cycleOf
-never-22 reading store main local s e =
+pub never-22 : (fence : Fence) (reading : Reading) (store main local : List ℕ) (s : State) → refusalNumber (cycleIn fence reading store main local s .answer) ≡ 22 → ⊥
+unfolding cycleIn
+never-22 fence reading store main local s e =
     let f : Fields = fieldsOf (wordAt store s) in
-    never 22 (cycleChecks reading store main local s) tt (λ z. omega arith) (sym (decided-number reading (first (cycleChecks reading store main local s)) (stops f) f main local s) ∙ e)
+    never 22 (cycleChecks fence reading store main local s) tt (λ z. omega arith) (sym (decided-number reading (first (cycleChecks fence reading store main local s)) (stops f) f main local s) ∙ e)
 
 -- ---- a refusal's number and field are bytes
 
@@ -207,7 +209,7 @@ field-small : (reading : Reading) (at-10 : Bool) (f : Fields) → cond at-10 (un
 field-small reading true f = unmodelled-small reading f
 field-small reading false f = omega arith
 
-module _ (reading : Reading) (store main local : List ℕ) (s t : State) (n g : ℕ) where
+module _ (fence : Fence) (reading : Reading) (store main local : List ℕ) (s t : State) (n g : ℕ) where
   decided-small : (k : ℕ) (stop : Bool) (f : Fields) → k < 256 → decided reading k stop f main local s .answer ≡ Refused t n g → (n < 256) × (g < 256)
   decided-small (suc k) stop f h e =
       let same : suc k ≡ n = cc in
@@ -216,13 +218,16 @@ module _ (reading : Reading) (store main local : List ℕ) (s t : State) (n g : 
   decided-small zero true f h e = absurd (zero-one cc)
   decided-small zero false f h e = absurd (ran-not-refused reading f main local s t n g e)
 
-  pub refusal-small : cycleOf reading store main local s .answer ≡ Refused t n g → (n < 256) × (g < 256)
-  unfolding cycleOf
+  pub refusal-small : cycleIn fence reading store main local s .answer ≡ Refused t n g → (n < 256) × (g < 256)
+  unfolding cycleIn
   refusal-small e =
       let f : Fields = fieldsOf (wordAt store s) in
-      decided-small (first (cycleChecks reading store main local s)) (stops f) f (first-lt 256 (cycleChecks reading store main local s) (omega arith) tt) e
+      decided-small (first (cycleChecks fence reading store main local s)) (stops f) f (first-lt 256 (cycleChecks fence reading store main local s) (omega arith) tt) e
 
 -- ---- no second answer fits, nor a second storage. The promise names no correction, so the cycle by table is the cycle by rule
+
+pub cycle-in-sole : (κs : _) (args : _) (r q : Cycled) (x y : _) → cycle-in.Post κs args r x → cycle-in.Post κs args q y → outcome r (now (x .1 .1 .1 .0)) (now (x .1 .1 .1 .1 .0)) ≡ outcome q (now (y .1 .1 .1 .0)) (now (y .1 .1 .1 .1 .0))
+cycle-in-sole κs args r q x y a b = sole a b
 
 pub cycle-sole : (κs : _) (args : _) (r q : Cycled) (x y : _) → cycle.Post κs args r x → cycle.Post κs args q y → outcome r (now (x .1 .1 .0)) (now (x .1 .1 .1 .0)) ≡ outcome q (now (y .1 .1 .0)) (now (y .1 .1 .1 .0))
 cycle-sole κs args r q x y a b = sole a b

@@ -22,9 +22,9 @@ use Rattle.adder.specs.Adder.{sumOf}
 use Rattle.adder.specs.declared.Sum.{Sum}
 use Rattle.machine.specs.Sources.{entered, sumIn}
 use Rattle.machine.specs.Branch.{testedOf, wOf, nextOf}
-use Rattle.machine.specs.Storage.{accessOf, outside}
+use Rattle.storage.specs.Storage.{accessOf, outside}
 use Rattle.machine.specs.Status.{into, saves, statusOf}
-use Rattle.machine.specs.Cycle.{outcome, stops, accessIn, cycleChecks, wordAt, ranOf, decided, cycleOf}
+use Rattle.machine.specs.Cycle.{outcome, stops, accessIn, cycleChecks, wordAt, ranOf, decided, cycleIn}
 use Rattle.machine.specs.Seven.{CycleAlike, TellApart}
 use Rattle.machine.specs.declared.State.{State}
 use Rattle.machine.specs.declared.Cycled.{Cycled}
@@ -57,18 +57,18 @@ module _ (f : Fields) (none : usesOne f ≡ false) where
     decided-same zero false = ran-same
 
 pub cycle-alike : CycleAlike
-unfolding cycleOf
-cycle-alike store main local s none =
+unfolding cycleIn
+cycle-alike fence store main local s none =
     let w : ℕ = wordAt store s in
     let f : Fields = fieldsOf w in
     let uses-none : usesOne f ≡ false = none-at 0 store (s .wx) none in
     let ten : unmodelledOf Basic f ≡ unmodelledOf Compatibility f = unmodelled-alike f uses-none in
-    let checks : first (cycleChecks Basic store main local s) ≡ first (cycleChecks Compatibility store main local s) =
+    let checks : first (cycleChecks fence Basic store main local s) ≡ first (cycleChecks fence Compatibility store main local s) =
     λ i. first
     ((1, sizesWrong (length store) (length main) (length local)) ∷ (2, leb (length store) (s .wx))
-    ∷ (faultChecks w (s .wx) (lineOf w) ++ ((10, not (stops f) && not (eqb (ten i) 0)) ∷ (11, not (stops f) && outside (length main) (accessIn f s)) ∷ []))) in
+    ∷ (faultChecks w (s .wx) (lineOf w) ++ ((10, not (stops f) && not (eqb (ten i) 0)) ∷ (11, not (stops f) && outside fence (length main) (accessIn f s)) ∷ []))) in
     ap (λ (n : ℕ). decided Basic n (stops f) f main local s) checks
-    ∙ decided-same f uses-none main local s (first (cycleChecks Compatibility store main local s)) (stops f)
+    ∙ decided-same f uses-none main local s (first (cycleChecks fence Compatibility store main local s)) (stops f)
 
 -- ---- each of the seven
 
@@ -82,7 +82,7 @@ differ : (x y : Cycled) (m n : ℕ) → leads x ≡ m → leads y ≡ n → (m �
 differ x y m n hx hy other e = other (omega (arith, hx, hy, ap leads e))
 
 pub tell-apart : TellApart
-unfolding cycleOf ranOf entered sumIn sumOf accessOf nextOf statusOf unmodelledOf ones
+unfolding cycleIn ranOf entered sumIn sumOf accessOf nextOf statusOf unmodelledOf ones
 tell-apart = (
   (refl, differ _ _ 2 0 refl refl (λ e. omega arith)),
   (

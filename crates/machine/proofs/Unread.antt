@@ -9,8 +9,8 @@ use Rattle.word.specs.declared.Fields.{Fields}
 use Rattle.codes.specs.declared.Reading.{Reading}
 use Rattle.machine.specs.Sources.{entered, sumIn}
 use Rattle.machine.specs.Branch.{nextOf}
-use Rattle.machine.specs.Storage.{accessOf}
-use Rattle.machine.specs.Cycle.{Outcome, outcome, stops, cycleChecks, wordAt, ranOf, decided, cycleOf}
+use Rattle.storage.specs.Storage.{accessOf}
+use Rattle.machine.specs.Cycle.{Outcome, outcome, stops, cycleChecks, wordAt, ranOf, decided, cycleIn}
 use Rattle.machine.specs.Unread.{withLamps, answerWith, CycleUnread}
 use Rattle.machine.specs.declared.State.{State}
 use Rattle.machine.specs.declared.Cycled.{Cycled}
@@ -29,8 +29,8 @@ module _ (reading : Reading) (carry invalid : Bool) (f : Fields) (main local : L
   decided-unread zero false = ran-unread
 
 pub cycle-unread : CycleUnread
-unfolding cycleOf entered accessOf
-cycle-unread reading store main local s carry invalid o e =
+unfolding cycleIn entered accessOf
+cycle-unread fence reading store main local s carry invalid o e =
     let f : Fields = fieldsOf (wordAt store s) in
     ap (outcomeWith carry invalid) e
-    ∙ decided-unread reading carry invalid f main local s (first (cycleChecks reading store main local s)) (stops f)
+    ∙ decided-unread reading carry invalid f main local s (first (cycleChecks fence reading store main local s)) (stops f)

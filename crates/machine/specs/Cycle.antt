@@ -14,13 +14,15 @@ use Rattle.word.specs.declared.Apart.the-variants as A
 use Rattle.word.specs.declared.Fields.{Fields}
 use Rattle.codes.specs.Modelled.{unmodelledOf}
 use Rattle.codes.specs.declared.Reading.{Reading}
+use Rattle.storage.specs.Storage.{accessOf, whole, outside, fetchedOf, mainAfter, localAfter}
+use Rattle.storage.specs.declared.Access.{Access}
+use Rattle.storage.specs.declared.Fence.{Fence}
+use Rattle.storage.specs.declared.Seen.{Seen}
 use Rattle.adder.specs.declared.Sum.{Sum}
 use Rattle.machine.specs.Sources.{entered, sumIn, workIn}
 use Rattle.machine.specs.Branch.{nextOf}
-use Rattle.machine.specs.Storage.{accessOf, outside, fetchedOf, mainAfter, localAfter}
 use Rattle.machine.specs.Status.{into, statusOf}
 use Rattle.machine.specs.declared.State.{State}
-use Rattle.machine.specs.declared.Access.{Access}
 use Rattle.machine.specs.declared.Cycled.{Cycled}
 use Rattle.machine.specs.declared.Cycled.the-variants.{Ran, Stopped, Refused}
 use Rattle.machine.specs.declared.NextSum.{NextSum}
@@ -39,26 +41,47 @@ outcome answer main local = record { answer = answer; main = main; local = local
 abbrev pub stops : Fields → Bool
 stops f = eqb (f .cf) 4
 
+-- what storage sees of a state
+abbrev pub seenOf : State → Seen
+seenOf s =
+    record {
+      i = s .i;
+      j = s .j;
+      u = s .u;
+      v = s .v;
+      l = s .l;
+      t = s .t;
+      g = s .g;
+      m = s .m;
+      n = s .n;
+      «allow_write» = s .«allow_write»;
+      «local_selected» = s .«local_selected»;
+    }
+
 -- what storage is to do, decided after the arriving byte is in R
 abbrev pub accessIn : Fields → State → Access
-accessIn f s = accessOf f (entered f s)
+accessIn f s = accessOf f (seenOf (entered f s))
 
 -- "Stop is decided after 9 and before 10"
-abbrev pub stepChecks : Reading → Fields → ℕ → State → List Check
-stepChecks reading f main s =
+abbrev pub stepChecks : Fence → Reading → Fields → ℕ → State → List Check
+stepChecks fence reading f main s =
     (10, not (stops f) && not (eqb (unmodelledOf reading f) 0)) ∷
-    (11, not (stops f) && outside main (accessIn f s)) ∷
+    (11, not (stops f) && outside fence main (accessIn f s)) ∷
     []
 
 abbrev pub wordAt : List ℕ → State → ℕ
 wordAt store s = getD store (s .wx) 0
 
--- the refusals in the order checked: 1, 2, 3 to 9, 10, 11. The reading goes with the store
-abbrev pub cycleChecks : Reading → List ℕ → List ℕ → List ℕ → State → List Check
-cycleChecks reading store main local s =
-    (1, sizesWrong (length store) (length main) (length local)) ∷
+-- the refusals of a word in the order checked: 2, 3 to 9, 10, 11. The reading goes with the store, the fence with the board
+abbrev pub nextWordChecks : Fence → Reading → List ℕ → ℕ → State → List Check
+nextWordChecks fence reading store main s =
     (2, leb (length store) (s .wx)) ∷
-    (faultChecks (wordAt store s) (s .wx) (lineOf (wordAt store s)) ++ stepChecks reading (fieldsOf (wordAt store s)) (length main) s)
+    (faultChecks (wordAt store s) (s .wx) (lineOf (wordAt store s)) ++ stepChecks fence reading (fieldsOf (wordAt store s)) main s)
+
+-- and of a cycle: 1, then those
+abbrev pub cycleChecks : Fence → Reading → List ℕ → List ℕ → List ℕ → State → List Check
+cycleChecks fence reading store main local s =
+    (1, sizesWrong (length store) (length main) (length local)) ∷ nextWordChecks fence reading store (length main) s
 
 -- "e. The result goes to the CD register; then CS changes S; then S3 takes the new AC if CC saves it. Last, WX."
 -- s has the arriving byte in R, z is the adder's answer, a is what storage does
@@ -100,7 +123,7 @@ after reading f z a fetched s =
 unfoldable pub ranOf : Reading → Fields → List ℕ → List ℕ → State → Outcome Cycled
 ranOf reading f main local s =
     let e : State = entered f s in
-    let a : Access = accessOf f e in
+    let a : Access = accessOf f (seenOf e) in
     outcome (Ran (after reading f (sumIn f e) a (fetchedOf main local a) e)) (mainAfter main a (e .r)) (localAfter local a (e .r))
 
 -- 10 comes with its field, every other number with 0
@@ -114,13 +137,18 @@ decided reading zero true f main local s = outcome (Stopped s) main local
 decided reading zero false f main local s = ranOf reading f main local s
 
 -- from the fields on
-abbrev pub stepOf : Reading → Fields → List ℕ → List ℕ → State → Outcome Cycled
-stepOf reading f main local s = decided reading (first (stepChecks reading f (length main) s)) (stops f) f main local s
+abbrev pub stepOf : Fence → Reading → Fields → List ℕ → List ℕ → State → Outcome Cycled
+stepOf fence reading f main local s = decided reading (first (stepChecks fence reading f (length main) s)) (stops f) f main local s
 
-unfoldable pub cycleOf : Reading → List ℕ → List ℕ → List ℕ → State → Outcome Cycled
-cycleOf reading store main local s =
+-- one cycle in a fence
+unfoldable pub cycleIn : Fence → Reading → List ℕ → List ℕ → List ℕ → State → Outcome Cycled
+cycleIn fence reading store main local s =
     let f : Fields = fieldsOf (wordAt store s) in
-    decided reading (first (cycleChecks reading store main local s)) (stops f) f main local s
+    decided reading (first (cycleChecks fence reading store main local s)) (stops f) f main local s
+
+-- one cycle: all main storage is in the fence
+abbrev pub cycleOf : Reading → List ℕ → List ℕ → List ℕ → State → Outcome Cycled
+cycleOf reading store main local s = cycleIn whole reading store main local s
 
 -- the paper's number of each answer, 0 where it does not refuse
 abbrev pub refusalNumber : Cycled → ℕ

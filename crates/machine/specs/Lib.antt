@@ -1,7 +1,7 @@
 pub mod Sources
 pub mod Branch
-pub mod Storage
 pub mod Status
 pub mod Cycle
 pub mod Unread
 pub mod Seven
+pub mod Fenced

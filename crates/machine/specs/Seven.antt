@@ -9,13 +9,16 @@ use Rattle.word.specs.Layout.{fieldsOf}
 use Rattle.word.specs.declared.Fields.{Fields}
 use Rattle.codes.specs.Seven.{usesNone}
 use Rattle.codes.specs.declared.Reading.the-variants.{Basic, Compatibility}
-use Rattle.machine.specs.Cycle.{cycleOf}
+use Rattle.storage.specs.declared.Fence.{Fence}
+use Rattle.machine.specs.Cycle.{cycleIn, cycleOf}
 use Rattle.machine.specs.declared.State.{State}
 
 -- one cycle, from any state over any storages: its answer, its refusal with 10's field, and what it leaves
 abbrev pub CycleAlike : Type 0
 CycleAlike =
-    (store main local : List ℕ) (s : State) → usesNone store ≡ true → cycleOf Basic store main local s ≡ cycleOf Compatibility store main local s
+    (fence : Fence) (store main local : List ℕ) (s : State)
+    → usesNone store ≡ true
+    → cycleIn fence Basic store main local s ≡ cycleIn fence Compatibility store main local s
 
 -- the state at WX 0 with these in R and S, all else 0 or off
 abbrev pub showing : ℕ → ℕ → State

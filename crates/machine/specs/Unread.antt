@@ -4,7 +4,8 @@ use mathlib.Core.Path.{_≡_}
 use mathlib.Core.List.{List}
 use mathlib.Core.Bool.{Bool}
 use Rattle.codes.specs.declared.Reading.{Reading}
-use Rattle.machine.specs.Cycle.{Outcome, outcome, cycleOf}
+use Rattle.storage.specs.declared.Fence.{Fence}
+use Rattle.machine.specs.Cycle.{Outcome, outcome, cycleIn}
 use Rattle.machine.specs.declared.State.{State}
 use Rattle.machine.specs.declared.Cycled.{Cycled}
 use Rattle.machine.specs.declared.Cycled.the-variants.{Ran, Stopped, Refused}
@@ -49,6 +50,6 @@ answerWith carry invalid (Refused t number field) = Refused (withLamps carry inv
 -- what a cycle does is the same whatever these two lamps show before it
 abbrev pub CycleUnread : Type 0
 CycleUnread =
-    (reading : Reading) (store main local : List ℕ) (s : State) (carry invalid : Bool) (o : Outcome Cycled)
-    → o ≡ cycleOf reading store main local s
-    → outcome (answerWith carry invalid (o .answer)) (o .main) (o .local) ≡ cycleOf reading store main local (withLamps carry invalid s)
+    (fence : Fence) (reading : Reading) (store main local : List ℕ) (s : State) (carry invalid : Bool) (o : Outcome Cycled)
+    → o ≡ cycleIn fence reading store main local s
+    → outcome (answerWith carry invalid (o .answer)) (o .main) (o .local) ≡ cycleIn fence reading store main local (withLamps carry invalid s)

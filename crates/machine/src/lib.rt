@@ -1,17 +1,19 @@
 // The machine: its state, and one cycle of it.
+mod access;
 mod branch;
 mod sources;
 mod status;
-mod storage;
 mod tables;
 
 ghost use mathlib.Core.Path.{_≡_};
 ghost use Prim.Native.Nat.{_<_};
 ghost use lib.ListN.{length};
-ghost use Rattle.machine.specs.Cycle.{outcome, after, stepOf, cycleOf, sumBy, nextSumOf};
+ghost use Rattle.machine.specs.Cycle.{outcome, after, stepOf, cycleIn, cycleOf, sumBy, nextSumOf};
 use adder::Sum;
 use adder::Work;
 use codes::Reading;
+use storage::Access;
+use storage::Fence;
 use word::Apart;
 use word::Fields;
 
@@ -43,16 +45,6 @@ pub struct State {
     pub invalid: bool,
     pub fwx: u16,
     pub owed: bool,
-}
-
-// d. The address, the kind and the latch after the word, and what storage is to do.
-pub struct Access {
-    pub m: u8,
-    pub n: u8,
-    pub local: bool,
-    pub latch: bool,
-    pub fetches: bool,
-    pub puts: bool,
 }
 
 // A refusal has its number and, where that is 10, the field's place in the word.
@@ -104,36 +96,44 @@ fn after(reading: Reading, f: Fields, z: Sum, a: Access, fetched: u8, s: State) 
 
 // What the fields of a word do: decide everything, then make at most one store. One expression, since a return from its middle
 // costs a cycle a copy of its answer.
-fn step(reading: Reading, f: Fields, main: &mut [u8], local: &mut [u8], s: State) -> Cycled
+fn step(
+    fence: Fence,
+    reading: Reading,
+    f: Fields,
+    main: &mut [u8],
+    local: &mut [u8],
+    s: State,
+) -> Cycled
     requires { ⌜ (f .cn < 64) × ((f .ck < 16) × (length (now local) ≡ 256)) ⌝ }
-    ensures { λ r. ⌜ outcome r (now (main .exit)) (now (local .exit)) ≡ stepOf reading f (now (main .entry)) (now (local .entry)) s ⌝ }
+    ensures { λ r. ⌜ outcome r (now (main .exit)) (now (local .exit)) ≡ stepOf fence reading f (now (main .entry)) (now (local .entry)) s ⌝ }
 {
     let field = codes::unmodelled(reading, f);
     let entered = sources::enter(f, s);
     let z = sources::sum_in(f, entered);
-    let access = storage::access_of(f, entered);
+    let access = access::asked(f, entered);
     if f.cf == 4 {
         Cycled::Stopped(s)
     } else if field != 0 {
         Cycled::Refused(s, 10, field)
-    } else if storage::is_outside(main.len(), access) {
+    } else if storage::is_outside(fence, main.len(), access) {
         Cycled::Refused(s, 11, 0)
     } else {
-        let fetched = storage::fetched(main, local, access);
-        storage::put(main, local, access, entered.r);
+        let fetched = access::fetched(main, local, access);
+        access::put(main, local, access, entered.r);
         Cycled::Ran(after(reading, f, z, access, fetched, entered))
     }
 }
 
-// One cycle, of the store's word at WX under a reading.
-pub fn cycle(
+// One cycle in a fence, of the store's word at WX under a reading.
+pub fn cycle_in(
+    fence: Fence,
     reading: Reading,
     store: &[u64],
     main: &mut [u8],
     local: &mut [u8],
     state: State,
 ) -> Cycled
-    ensures { λ r. ⌜ outcome r (now (main .exit)) (now (local .exit)) ≡ cycleOf reading (now (store .entry)) (now (main .entry)) (now (local .entry)) state ⌝ }
+    ensures { λ r. ⌜ outcome r (now (main .exit)) (now (local .exit)) ≡ cycleIn fence reading (now (store .entry)) (now (main .entry)) (now (local .entry)) state ⌝ }
 {
     if digits::sizes_wrong(store.len(), main.len(), local.len()) {
         return Cycled::Refused(state, 1, 0);
@@ -147,7 +147,24 @@ pub fn cycle(
     if number != 0 {
         return Cycled::Refused(state, number, 0);
     }
-    step(reading, word::fields_of(word), main, local, state)
+    step(fence, reading, word::fields_of(word), main, local, state)
+}
+
+// One cycle, all main storage in the fence.
+pub fn cycle(
+    reading: Reading,
+    store: &[u64],
+    main: &mut [u8],
+    local: &mut [u8],
+    state: State,
+) -> Cycled
+    ensures { λ r. ⌜ outcome r (now (main .exit)) (now (local .exit)) ≡ cycleOf reading (now (store .entry)) (now (main .entry)) (now (local .entry)) state ⌝ }
+{
+    let whole = Fence {
+        start: 0,
+        end: 65536,
+    };
+    cycle_in(whole, reading, store, main, local, state)
 }
 
 // The work of the word that would run next: what is chosen, gated and summed, step by step.

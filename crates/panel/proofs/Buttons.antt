@@ -12,6 +12,7 @@ use Rattle.digits.specs.Bits.{one}
 use Rattle.digits.specs.Lent.{over}
 use Rattle.digits.proofs.Truth.{either-way}
 use Rattle.codes.specs.declared.Reading.{Reading}
+use Rattle.storage.specs.Storage.{whole}
 use Rattle.machine.specs.Cycle.{Outcome, outcome, cycleOf}
 use Rattle.machine.specs.declared.State.{State}
 use Rattle.machine.specs.declared.Cycled.{Cycled}
@@ -29,7 +30,7 @@ use Rattle.run.proofs.Divided.{divided, once, one-cycle}
 use Rattle.run.proofs.Quiet.{quiet-keeps}
 use Rattle.channels.specs.Channels.{recordLength, saved, loaded}
 use Rattle.channels.proofs.Trips.{state-back}
-use Rattle.panel.specs.Answers.{RAN, REFUSED, SPENT, coded, counted, Called, called, short, cycled, cycledBy, cycleCall, endingCode, recordAfter, ranBy, runCall}
+use Rattle.panel.specs.Answers.{RAN, REFUSED, coded, counted, Called, called, short, answerCycle, cycledBy, callBy, cycleCall, endingCode, recordAfter, ranBy, runCall}
 use Rattle.panel.proofs.Calls.{run-short, run-else, by-record}
 use Rattle.panel.proofs.Promises.{Untouched, run-keeps}
 use Rattle.panel.specs.Buttons.{codeIn, cyclesIn, DividedCalls, CallsDivide, pressCycle, pressRun, presses, ranIn, asEnding, Shows, SameMachine, CallsQuiet}
@@ -89,7 +90,7 @@ loaded-after budget reading store main local state = by (r .answer .count) refl
     r = runOf budget reading store main local (loaded state)
 
     by : (n : ℕ) → r .answer .count ≡ n → loaded (recordAfter n (r .answer .state) state) ≡ r .answer .state
-    by zero e = sym (ap (λ (m : Machine). m .state) (goes-none (run-goes (lawful reading store) budget main local (loaded state)) e))
+    by zero e = sym (ap (λ (m : Machine). m .state) (goes-none (run-goes (lawful whole reading store) budget main local (loaded state)) e))
     by (suc n) e = ap loaded (written (suc n) (r .answer .state) state (λ z. omega arith)) ∙ state-back (r .answer .state) state
 
 -- ---- the calls
@@ -167,13 +168,13 @@ calls-divide a b reading store c most =
     ran : recordLength ≤ length state → Divide a b reading store c (ranBy r state) (pressRun (a + b) reading store c)
     ran h =
         let same = loaded-after a reading store main local state in
-        let goes = run-goes (lawful reading store) b (r .main) (r .local) (loaded left) in
+        let goes = run-goes (lawful whole reading store) b (r .main) (r .local) (loaded left) in
         known a b reading store c (ranBy r state) (ranBy q left) (ranBy w state)
         (run-else reading store (r .main) (r .local) left b (still-long (r .answer .count) (r .answer .state) state h))
         (run-else reading store main local state (a + b) h)
-        (from-runs b r q w state (run-small (lawful reading store) a main local s) (run-small (lawful reading store) b (r .main) (r .local) (loaded left)) (run-small (lawful reading store) (a + b) main local s)
+        (from-runs b r q w state (run-small (lawful whole reading store) a main local s) (run-small (lawful whole reading store) b (r .main) (r .local) (loaded left)) (run-small (lawful whole reading store) (a + b) main local s)
         (λ none. ap (λ (m : Machine). m .state) (goes-none goes none) ∙ same)
-        (divided reading a b store main local s r q w most refl (ap (runOf b reading store (r .main) (r .local)) same) refl))
+        (divided whole reading a b store main local s r q w most refl (ap (runOf b reading store (r .main) (r .local)) same) refl))
 
 -- ---- the presses
 
@@ -181,17 +182,13 @@ calls-divide a b reading store c most =
 abbrev shown : Called → Called
 shown c = called (counted (asEnding (c .number)) (one (eqb (c .number) RAN) + 0)) (c .main) (c .local) (c .state)
 
--- and the other way: what panel_cycle makes of the number of that run
-abbrev pub asPress : ℕ → ℕ
-asPress code = cond (eqb code SPENT) RAN code
-
-as-run : (reading : Reading) (store : List ℕ) (r : Cycled) (main local state : List ℕ) → ranBy (once (cycleOf reading store) (outcome r main local)) state ≡ shown (cycled r main local state)
+as-run : (reading : Reading) (store : List ℕ) (r : Cycled) (main local state : List ℕ) → ranBy (once (cycleOf reading store) (outcome r main local)) state ≡ shown (cycledBy (outcome r main local) state)
 as-run reading store (C.Ran t) main local state = ap (λ (o : Outcome Finished). ranBy o state) (spent (cycleOf reading store) main local t 1)
 as-run reading store (C.Stopped t) main local state = refl
 as-run reading store (C.Refused t number field) main local state = rw (ne-eqb (coded REFUSED number field) RAN (λ z. omega arith))
 
 press-is-run : (reading : Reading) (store main local state : List ℕ) → runCall reading store main local state 1 ≡ shown (cycleCall reading store main local state)
-unfolding runCall cycleCall
+unfolding runCall callBy
 press-is-run reading store main local state = by (ltb (length state) recordLength)
   where
     o : Outcome Cycled
@@ -199,38 +196,30 @@ press-is-run reading store main local state = by (ltb (length state) recordLengt
 
     by : (z : Bool) → cond z (short main local state) (ranBy (runOf 1 reading store main local (loaded state)) state) ≡ shown (cond z (short main local state) (cycledBy o state))
     by true = refl
-    by false = ap (λ (r : Outcome Finished). ranBy r state) (one-cycle (lawful reading store) (machine (loaded state) main local)) ∙ as-run reading store (o .answer) (o .main) (o .local) state
+    by false = ap (λ (r : Outcome Finished). ranBy r state) (one-cycle (lawful whole reading store) (machine (loaded state) main local)) ∙ as-run reading store (o .answer) (o .main) (o .local) state
 
--- the number of a press: as the end of a run it is below 2^32, and it comes back from there
-abbrev Told : ℕ → Type 0
-Told code = (asEnding code < 2 ^ 32) × (asPress (asEnding code) ≡ code)
-
+-- the number of a press, as the end of a run, is below 2^32
 module _ (reading : Reading) (store main local state : List ℕ) where
-  answer-told : (r : Cycled) → cycleOf reading store main local (loaded state) .answer ≡ r → (m l : List ℕ) → Told (cycled r m l state .number)
-  answer-told (C.Ran t) e m l = (omega arith, refl)
-  answer-told (C.Stopped t) e m l = (omega arith, refl)
-  answer-told (C.Refused t number field) e m l =
-      let (n, f) = refusal-small reading store main local (loaded state) t number field e in
-      rw (ne-eqb (coded REFUSED number field) RAN (λ z. omega arith), ne-eqb (coded REFUSED number field) SPENT (λ z. omega arith)) (omega arith, refl)
+  abbrev Low : ℕ → Type 0
+  Low code = asEnding code < 2 ^ 32
 
-  press-told : Told (cycleCall reading store main local state .number)
-  unfolding cycleCall
-  press-told = by (ltb (length state) recordLength)
+  answer-low : (r : Cycled) → cycleOf reading store main local (loaded state) .answer ≡ r → Low (answerCycle r state .number)
+  answer-low (C.Ran t) e = omega arith
+  answer-low (C.Stopped t) e = omega arith
+  answer-low (C.Refused t number field) e =
+      let (n, f) = refusal-small whole reading store main local (loaded state) t number field e in
+      rw (ne-eqb (coded REFUSED number field) RAN (λ z. omega arith)) (omega arith)
+
+  press-low : Low (cycleCall reading store main local state .number)
+  unfolding callBy
+  press-low = by (ltb (length state) recordLength)
     where
       o : Outcome Cycled
       o = cycleOf reading store main local (loaded state)
 
-      by : (z : Bool) → Told (cond z (short main local state) (cycledBy o state) .number)
-      by true = (omega arith, refl)
-      by false = answer-told (o .answer) refl (o .main) (o .local)
-
-  pub pressed : (number : ℕ) (m l out : List ℕ) → called number m l out ≡ runCall reading store main local state 1
-      → called (asPress (codeIn number)) m l out ≡ cycleCall reading store main local state
-  pressed number m l out e =
-      let c : Called = cycleCall reading store main local state in
-      let all : called number m l out ≡ shown c = e ∙ press-is-run reading store main local state in
-      let code = ap (λ (z : Called). asPress (codeIn (z .number))) all ∙ ap asPress (code-in (asEnding (c .number)) _ (press-told .0)) ∙ press-told .1 in
-      λ i. called (code i) (all i .main) (all i .local) (all i .state)
+      by : (z : Bool) → Low (cond z (short main local state) (cycledBy o state) .number)
+      by true = omega arith
+      by false = answer-low (o .answer) refl
 
 -- n cycles by the first, and then what is known of the second
 then-second : (b : ℕ) (first whole : Called) (code n ending ran : ℕ) (main local state : List ℕ) → (b ≡ 0 → ⊥) → first .number ≡ counted code n → code < 2 ^ 32
@@ -259,7 +248,7 @@ some-presses (suc n) reading store c h =
     let known = subst (λ (z : Called). DividedCalls (suc n) (shown c1) z whole) (some-presses n reading store c1 (omega arith)) pressed in
     ap (λ (k : ℕ). pressRun k reading store c) two
     ∙ then-second (suc n) (shown c1) whole (asEnding (c1 .number)) (one (eqb (c1 .number) RAN)) (asEnding (last .number)) (ranIn (suc n) reading store c1) (last .main) (last .local) (last .state)
-    (λ z. omega arith) (ap (counted (asEnding (c1 .number))) (add-zero _)) (press-told reading store (c .main) (c .local) (c .state) .0) known
+    (λ z. omega arith) (ap (counted (asEnding (c1 .number))) (add-zero _)) (press-low reading store (c .main) (c .local) (c .state)) known
 
 -- a budget of 0 touches nothing
 no-press : (reading : Reading) (store main local state : List ℕ) → Untouched main local state (runCall reading store main local state 0)
@@ -270,8 +259,8 @@ no-press reading store main local state = run-keeps reading store main local sta
 
     ran : recordLength ≤ length state → ranBy r state .number < 2 ^ 32
     ran h =
-        let code = code-small (r .answer .ending) (run-small (lawful reading store) 0 main local (loaded state)) in
-        let none = count-within (lawful reading store) 0 main local (loaded state) in
+        let code = code-small (r .answer .ending) (run-small (lawful whole reading store) 0 main local (loaded state)) in
+        let none = count-within (lawful whole reading store) 0 main local (loaded state) in
         omega arith
 
 shows : (n : ℕ) (reading : Reading) (store : List ℕ) (c : Called) (number : ℕ) → pressRun n reading store c ≡ called number (presses n reading store c .main) (presses n reading store c .local) (presses n reading store c .state)
@@ -291,4 +280,4 @@ same-machine (suc n) reading store c h = shows (suc n) reading store c _ (some-p
 pub calls-quiet : CallsQuiet
 calls-quiet budget reading store c quiet =
     by-record reading store (c .main) (c .local) (c .state) budget (λ (z : Called). (z .main ≡ c .main) × (z .local ≡ c .local)) (λ h. (refl, refl))
-    (λ h. quiet-keeps reading budget store (c .main) (c .local) (loaded (c .state)) _ quiet refl)
+    (λ h. quiet-keeps whole reading budget store (c .main) (c .local) (loaded (c .state)) _ quiet refl)

@@ -20,6 +20,7 @@ use Rattle.machine.specs.Cycle.{Outcome, outcome, nextSumOf}
 use Rattle.machine.specs.declared.State.{State}
 use Rattle.trap.specs.Trap.{trapOf}
 use Rattle.trap.specs.declared.Trapped.{Trapped}
+use Rattle.machine.specs.declared.Cycled.{Cycled}
 use Rattle.machine.specs.declared.NextSum.{NextSum}
 use Rattle.run.specs.Run.{runOf}
 use Rattle.run.specs.declared.Finished.{Finished}
@@ -30,7 +31,7 @@ use Rattle.signed.specs.declared.ReadOut.the-variants as R
 use Rattle.signed.proofs.Trips.{read-whole}
 use Rattle.channels.specs.Channels.{recordLength, loaded}
 use Rattle.panel.specs.Fields.{fieldsIn}
-use Rattle.panel.specs.Answers.{REFUSED, coded, counted, answered, answerApart, takeApartCall, answerPacked, packCall, Called, called, short, endingCode, recordAfter, ranBy, runCall, answerTrap, trapCall, answerNext, nextSumCall, addedCode, addedBy, readSignedCall}
+use Rattle.panel.specs.Answers.{REFUSED, coded, counted, Answered, answered, answerApart, takeApartCall, answerPacked, packCall, Called, called, short, answerCycle, cycledBy, callBy, endingCode, recordAfter, ranBy, runCall, answerTrap, trapCall, answerNext, nextSumCall, addedCode, addedBy, readSignedCall}
 
 -- ---- a word
 
@@ -62,6 +63,24 @@ both-lent m n k l h = let (a, b) = neither (ltb m k) (ltb n l) h in (ltb-false m
 pub front : {A : Type 0} (l : List A) (w : A) → 1 ≤ length l → set l 0 w ≡ over (w ∷ []) l
 front [] w h = absurd (omega arith)
 front (x ∷ l) w h = refl
+
+-- ---- a cycle, a turn
+
+pub tell-is : (state : List ℕ) (a x : Cycled) (y : Answered ℕ) → a ≡ x → y ≡ answerCycle x state → y ≡ answerCycle a state
+tell-is state a x y e p = p ∙ ap (λ (z : Cycled). answerCycle z state) (sym e)
+
+module _ (cycle : State → Outcome Cycled) (main local state : List ℕ) where
+  pub call-short : (r : ℕ) → length state < recordLength → r ≡ coded REFUSED 19 0 → called r main local state ≡ callBy cycle main local state
+  unfolding callBy
+  call-short r h e = rw (lt-ltb (length state) recordLength h, e)
+
+  pub call-is : recordLength ≤ length state → (m l out : List ℕ) (a : Cycled) (r : ℕ) → outcome a m l ≡ cycle (loaded state) → answered r out ≡ answerCycle a state
+      → called r m l out ≡ callBy cycle main local state
+  unfolding callBy
+  call-is h m l out a r o e =
+      ap (λ (y : Answered ℕ). called (y .number) m l (y .lent)) e
+      ∙ ap (λ (y : Outcome Cycled). cycledBy y state) o
+      ∙ rw (le-ltb (length state) recordLength h)
 
 -- ---- a run
 

@@ -12,23 +12,30 @@ use Rattle.digits.proofs.Sole.{sole}
 use Rattle.word.specs.Layout.{fieldsOf}
 use Rattle.word.specs.declared.Fields.{Fields}
 use Rattle.codes.specs.declared.Reading.{Reading}
-use Rattle.machine.specs.Cycle.{Outcome, outcome, stops, cycleChecks, wordAt, ranOf, decided, cycleOf}
+use Rattle.storage.specs.Storage.{whole}
+use Rattle.storage.specs.declared.Fence.{Fence}
+use Rattle.machine.specs.Cycle.{Outcome, outcome, stops, cycleChecks, wordAt, ranOf, decided, cycleIn, cycleOf}
 use Rattle.machine.specs.declared.State.{State}
 use Rattle.machine.specs.declared.Cycled.{Cycled}
 use Rattle.machine.specs.declared.Cycled.the-variants as C
-use Rattle.machine.proofs.Promises.{refusal-keeps, stop-keeps}
+use Rattle.machine.proofs.Promises.{Kept, refusal-keeps, stop-keeps}
 use Rattle.run.specs.Run.{runOf}
 use Rattle.run.specs.declared.Finished.{Finished}
 use Rattle.run.proofs.Goes.{Machine, lawful, goes-none}
 use Rattle.run.proofs.Promises.{run-goes}
+use Rattle.session.specs.Turn.{turnOf}
+use Rattle.session.proofs.Turns.{turn-stops, turn-refuses}
 use Rattle.channels.specs.Channels.{recordLength, loaded}
-use Rattle.panel.specs.Answers.{RAN, coded, STOPPED, REFUSED, answered, Called, called, short, cycled, cycleCall, ranBy, runCall}
+use Rattle.panel.specs.Answers.{RAN, coded, STOPPED, REFUSED, answered, Called, called, short, answerCycle, cycledBy, callBy, cycleCall, turnCall, ranBy, runCall}
 use Rattle.panel.proofs.Calls.{by-record}
 use Rattle.panel.proofs.panel_take_apart.Reads as take-apart
 use Rattle.panel.proofs.panel_pack.Reads as pack
 use Rattle.panel.proofs.panel_cycle.Reads as cycle
 use Rattle.panel.proofs.panel_run.Reads as run
+use Rattle.panel.proofs.panel_open.Reads as opens
+use Rattle.panel.proofs.panel_turn.Reads as turn
 use Rattle.panel.proofs.panel_add_decimal.Reads as add-decimal
+use Rattle.panel.proofs.panel_add_decimal_in.Reads as add-decimal-in
 use Rattle.panel.proofs.panel_add_signed.Reads as add-signed
 use Rattle.panel.proofs.panel_sub_signed.Reads as sub-signed
 use Rattle.panel.proofs.panel_read_deck.Reads as read-deck
@@ -48,26 +55,34 @@ use Rattle.panel.proofs.panel_write_signed.Reads as write-signed
 abbrev pub Untouched : List ℕ → List ℕ → List ℕ → Called → Type 0
 Untouched main local state c = c ≡ called (c .number) main local state
 
-module _ (reading : Reading) (store main local state : List ℕ) where
-  cycle-same : (a : Cycled) → cycleOf reading store main local (loaded state) .answer ≡ a
-      → (cycled a (cycleOf reading store main local (loaded state) .main) (cycleOf reading store main local (loaded state) .local) state .number ≡ RAN → ⊥)
-      → Untouched main local state (cycled a (cycleOf reading store main local (loaded state) .main) (cycleOf reading store main local (loaded state) .local) state)
-  cycle-same (C.Ran t) e h = absurd (h refl)
-  cycle-same (C.Stopped t) e h =
-      let k = stop-keeps reading store main local (loaded state) t e in
-      λ i. called (coded STOPPED 0 0) (k .in-main i) (k .in-local i) state
-  cycle-same (C.Refused t n f) e h =
-      let k = refusal-keeps reading store main local (loaded state) t n f e in
-      λ i. called (coded REFUSED n f) (k .in-main i) (k .in-local i) state
+-- a cycle whose stops and refusals leave everything
+module _ (cycle : State → Outcome Cycled) (main local state : List ℕ) (keeps : (t : State) → (cycle (loaded state) .answer ≡ C.Stopped t → Kept main local (loaded state) t (cycle (loaded state)))
+    × ((n g : ℕ) → cycle (loaded state) .answer ≡ C.Refused t n g → Kept main local (loaded state) t (cycle (loaded state)))) where
+  abbrev o : Outcome Cycled
+  o = cycle (loaded state)
 
-  -- a cycle that did not run
-  pub cycle-keeps : (cycleCall reading store main local state .number ≡ RAN → ⊥) → Untouched main local state (cycleCall reading store main local state)
-  unfolding cycleCall
-  cycle-keeps = by (ltb (length state) recordLength) (cycled (cycleOf reading store main local (loaded state) .answer) (cycleOf reading store main local (loaded state) .main) (cycleOf reading store main local (loaded state) .local) state) (cycle-same (cycleOf reading store main local (loaded state) .answer) refl)
+  call-same : (a : Cycled) → o .answer ≡ a → (answerCycle a state .number ≡ RAN → ⊥) → Untouched main local state (called (answerCycle a state .number) (o .main) (o .local) (answerCycle a state .lent))
+  call-same (C.Ran t) e h = absurd (h refl)
+  call-same (C.Stopped t) e h = let k = keeps t .0 e in λ i. called (coded STOPPED 0 0) (k .in-main i) (k .in-local i) state
+  call-same (C.Refused t n f) e h = let k = keeps t .1 n f e in λ i. called (coded REFUSED n f) (k .in-main i) (k .in-local i) state
+
+  call-keeps : (callBy cycle main local state .number ≡ RAN → ⊥) → Untouched main local state (callBy cycle main local state)
+  unfolding callBy
+  call-keeps = by (ltb (length state) recordLength) (cycledBy o state) (call-same (o .answer) refl)
     where
       by : (b : Bool) (c : Called) → ((c .number ≡ RAN → ⊥) → Untouched main local state c) → (cond b (short main local state) c .number ≡ RAN → ⊥) → Untouched main local state (cond b (short main local state) c)
       by true c k h = refl
       by false c k h = k h
+
+-- a cycle that did not run, and a turn
+pub cycle-keeps : (reading : Reading) (store main local state : List ℕ) → (cycleCall reading store main local state .number ≡ RAN → ⊥) → Untouched main local state (cycleCall reading store main local state)
+cycle-keeps reading store main local state =
+    call-keeps (cycleOf reading store main local) main local state (λ t. (stop-keeps whole reading store main local (loaded state) t, refusal-keeps whole reading store main local (loaded state) t))
+
+pub turn-keeps : (own other : Fence) (reading : Reading) (store main local state : List ℕ) → (turnCall own other reading store main local state .number ≡ RAN → ⊥)
+    → Untouched main local state (turnCall own other reading store main local state)
+turn-keeps own other reading store main local state =
+    call-keeps (turnOf own other reading store main local) main local state (λ t. (turn-stops own other reading store main local (loaded state) t, turn-refuses own other reading store main local (loaded state) t))
 
 ran-none : (r : Outcome Finished) (main local state : List ℕ) → r .answer .count ≡ 0 → r .main ≡ main → r .local ≡ local → Untouched main local state (ranBy r state)
 ran-none r main local state e em el = rw (e, em, el)
@@ -82,7 +97,7 @@ run-keeps reading store main local state budget = by-record reading store main l
     ran : recordLength ≤ length state → ranBy r state .number < 2 ^ 32 → Untouched main local state (ranBy r state)
     ran long h =
         let e : r .answer .count ≡ 0 = omega arith in
-        let x = goes-none (run-goes (lawful reading store) budget main local (loaded state)) e in
+        let x = goes-none (run-goes (lawful whole reading store) budget main local (loaded state)) e in
         ran-none r main local state e (ap (λ (m : Machine). m .main) x) (ap (λ (m : Machine). m .local) x)
 
 -- ---- "With ARRIVING off, .. a cycle writes 0."
@@ -102,10 +117,10 @@ decided-unlit reading zero true f main local s = tt
 decided-unlit reading zero false f main local s = ran-unlit reading f main local s
 
 pub cycle-unlit : (reading : Reading) (store main local : List ℕ) (s : State) → Unlit (cycleOf reading store main local s .answer)
-unfolding cycleOf
+unfolding cycleIn
 cycle-unlit reading store main local s =
     let f : Fields = fieldsOf (wordAt store s) in
-    decided-unlit reading (first (cycleChecks reading store main local s)) (stops f) f main local s
+    decided-unlit reading (first (cycleChecks whole reading store main local s)) (stops f) f main local s
 
 -- ---- no second answer fits, nor a second state of what is lent
 
@@ -119,12 +134,22 @@ pub cycle-sole : (κs : _) (args : _) (r q : ℕ) (x y : _) → cycle.Post κs a
     → called r (now (x .1 .1 .0)) (now (x .1 .1 .1 .0)) (now (x .1 .1 .1 .1 .0)) ≡ called q (now (y .1 .1 .0)) (now (y .1 .1 .1 .0)) (now (y .1 .1 .1 .1 .0))
 cycle-sole κs args r q x y a b = sole a b
 
+pub open-sole : (κs : _) (args : _) (r q : ℕ) (x y : _) → opens.Post κs args r x → opens.Post κs args q y → r ≡ q
+open-sole κs args r q x y a b = sole a b
+
+pub turn-sole : (κs : _) (args : _) (r q : ℕ) (x y : _) → turn.Post κs args r x → turn.Post κs args q y
+    → called r (now (x .1 .1 .0)) (now (x .1 .1 .1 .0)) (now (x .1 .1 .1 .1 .0)) ≡ called q (now (y .1 .1 .0)) (now (y .1 .1 .1 .0)) (now (y .1 .1 .1 .1 .0))
+turn-sole κs args r q x y a b = sole a b
+
 pub run-sole : (κs : _) (args : _) (r q : ℕ) (x y : _) → run.Post κs args r x → run.Post κs args q y
     → called r (now (x .1 .1 .0)) (now (x .1 .1 .1 .0)) (now (x .1 .1 .1 .1 .0)) ≡ called q (now (y .1 .1 .0)) (now (y .1 .1 .1 .0)) (now (y .1 .1 .1 .1 .0))
 run-sole κs args r q x y a b = sole a b
 
 pub add-decimal-sole : (κs : _) (args : _) (r q : ℕ) (x y : _) → add-decimal.Post κs args r x → add-decimal.Post κs args q y → outcome r (now (x .0)) (now (x .1 .0)) ≡ outcome q (now (y .0)) (now (y .1 .0))
 add-decimal-sole κs args r q x y a b = sole a b
+
+pub add-decimal-in-sole : (κs : _) (args : _) (r q : ℕ) (x y : _) → add-decimal-in.Post κs args r x → add-decimal-in.Post κs args q y → outcome r (now (x .0)) (now (x .1 .0)) ≡ outcome q (now (y .0)) (now (y .1 .0))
+add-decimal-in-sole κs args r q x y a b = sole a b
 
 pub add-signed-sole : (κs : _) (args : _) (r q : ℕ) (x y : _) → add-signed.Post κs args r x → add-signed.Post κs args q y → outcome r (now (x .0)) (now (x .1 .0)) ≡ outcome q (now (y .0)) (now (y .1 .0))
 add-signed-sole κs args r q x y a b = sole a b

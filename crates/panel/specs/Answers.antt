@@ -14,6 +14,7 @@ use Rattle.word.specs.declared.Packed.the-variants as P
 use Rattle.codes.specs.declared.Reading.{Reading}
 use Rattle.codes.specs.declared.Reading.the-variants.{Basic, Compatibility}
 use Rattle.machine.specs.Cycle.{Outcome, outcome, cycleOf, nextSumOf}
+use Rattle.storage.specs.declared.Fence.{Fence}
 use Rattle.trap.specs.Trap.{trapOf}
 use Rattle.machine.specs.declared.State.{State}
 use Rattle.machine.specs.declared.Cycled.{Cycled}
@@ -32,6 +33,8 @@ use Rattle.decimal.specs.declared.Added.{Added}
 use Rattle.decimal.specs.declared.Added.the-variants as D
 use Rattle.apsp.specs.Program.{signedWords}
 use Rattle.apsp.specs.Entry.{signedStart, signedOf}
+use Rattle.session.specs.Turn.{turnOf}
+use Rattle.session.specs.Adding.{fencedAdd}
 use Rattle.digits.specs.Lent.{over}
 use Rattle.deck.specs.Deck.{readOf, wordsAfter, writeOf, deckAfter}
 use Rattle.deck.specs.declared.ReadIn.{ReadIn}
@@ -120,21 +123,28 @@ abbrev pub short : List ℕ → List ℕ → List ℕ → Called
 short main local state = called (coded REFUSED 19 0) main local state
 
 -- PANEL_RAN, PANEL_STOPPED or PANEL_REFUSED; the record is written by a cycle that ran, and by nothing else
-abbrev pub cycled : Cycled → List ℕ → List ℕ → List ℕ → Called
-cycled (C.Ran s) main local state = called (coded RAN 0 0) main local (over (saved s) state)
-cycled (C.Stopped s) main local state = called (coded STOPPED 0 0) main local state
-cycled (C.Refused s number field) main local state = called (coded REFUSED number field) main local state
+abbrev pub answerCycle : Cycled → List ℕ → Answered ℕ
+answerCycle (C.Ran s) state = answered (coded RAN 0 0) (over (saved s) state)
+answerCycle (C.Stopped s) state = answered (coded STOPPED 0 0) state
+answerCycle (C.Refused s number field) state = answered (coded REFUSED number field) state
 
 abbrev pub cycledBy : Outcome Cycled → List ℕ → Called
-cycledBy o state = cycled (o .answer) (o .main) (o .local) state
+cycledBy o state = called (answerCycle (o .answer) state .number) (o .main) (o .local) (answerCycle (o .answer) state .lent)
+
+-- 19, then one cycle of the record's state
+unfoldable pub callBy : (State → Outcome Cycled) → List ℕ → List ℕ → List ℕ → Called
+callBy cycle main local state = cond (ltb (length state) recordLength) (short main local state) (cycledBy (cycle (loaded state)) state)
 
 -- enum panel_reading: "Any other value than 0 is compatibility."
 abbrev pub readingOf : ℕ → Reading
 readingOf number = cond (eqb number 0) Basic Compatibility
 
-unfoldable pub cycleCall : Reading → List ℕ → List ℕ → List ℕ → List ℕ → Called
-cycleCall reading store main local state =
-    cond (ltb (length state) recordLength) (short main local state) (cycledBy (cycleOf reading store main local (loaded state)) state)
+abbrev pub cycleCall : Reading → List ℕ → List ℕ → List ℕ → List ℕ → Called
+cycleCall reading store main local state = callBy (cycleOf reading store main local) main local state
+
+-- "As panel_cycle; 19, then 1, then 32, then the cycle's own refusals, 11 by the board's own fence."
+abbrev pub turnCall : Fence → Fence → Reading → List ℕ → List ℕ → List ℕ → List ℕ → Called
+turnCall own other reading store main local state = callBy (turnOf own other reading store main local) main local state
 
 -- PANEL_STOPPED, PANEL_REFUSED or PANEL_SPENT
 abbrev pub endingCode : Ending → ℕ
@@ -222,6 +232,10 @@ addedBy o = outcome (addedCode (o .answer)) (o .main) (o .local)
 -- "carry_in: off at 0, on otherwise"
 unfoldable pub addDecimalCall : List ℕ → List ℕ → ℕ → ℕ → ℕ → ℕ → Outcome ℕ
 addDecimalCall main local first second n carry = addedBy (addOf main local first second n (not (eqb carry 0)))
+
+-- "The same inside a fence"
+unfoldable pub addDecimalInCall : Fence → List ℕ → List ℕ → ℕ → ℕ → ℕ → ℕ → Outcome ℕ
+addDecimalInCall fence main local first second n carry = addedBy (fencedAdd fence main local first second n (not (eqb carry 0)))
 
 -- ---- decimal add and subtract with signs
 

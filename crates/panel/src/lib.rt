@@ -5,7 +5,8 @@ ghost use mathlib.Core.Path.{_≡_};
 ghost use Prim.Native.Nat.{_≤_};
 ghost use lib.ListN.{length};
 ghost use Rattle.machine.specs.Cycle.{outcome};
-ghost use Rattle.panel.specs.Answers.{coded, counted, answered, takeApartCall, packCall, called, readingOf, cycleCall, endingCode, recordAfter, runCall, placed, trapCall, nextSumCall, started, startCall, startSignedCall, handed, shippedCall, shippedSignedCall, addedCode, addDecimalCall, addSignedCall, subSignedCall, readDeckCall, writeDeckCall, readSignedCall, writeSignedCall};
+ghost use Rattle.session.specs.Opening.{openOf};
+ghost use Rattle.panel.specs.Answers.{coded, counted, answered, takeApartCall, packCall, called, readingOf, answerCycle, cycleCall, turnCall, endingCode, recordAfter, runCall, placed, trapCall, nextSumCall, started, startCall, startSignedCall, handed, shippedCall, shippedSignedCall, addedCode, addDecimalCall, addDecimalInCall, addSignedCall, subSignedCall, readDeckCall, writeDeckCall, readSignedCall, writeSignedCall};
 ghost use Rattle.digits.specs.Lent.{over};
 ghost use Rattle.channels.specs.Channels.{recordLength, saved, worked};
 use adder::Work;
@@ -13,11 +14,13 @@ use codes::Reading;
 use decimal::Added;
 use deck::ReadIn;
 use deck::Writing;
+use machine::Cycled;
 use machine::NextSum;
 use machine::State;
 use run::Ending;
 use signed::ReadOut;
 use signed::Wrote;
+use storage::Fence;
 use trap::Trapped;
 use word::Apart;
 use word::Packed;
@@ -98,7 +101,33 @@ fn save(s: State, state: &mut [u8])
     digits::copy(&channels::saved(s), state);
 }
 
-// One cycle, as a run of one, so that a cycle has one caller. The record is written by a cycle that ran, and by nothing else.
+// What a cycle answered. The record is written by a cycle that ran, and by nothing else.
+fn tell(answer: Cycled, state: &mut [u8]) -> u32
+    requires { ⌜ recordLength ≤ length (now state) ⌝ }
+    ensures { λ r. ⌜ answered r (now (state .exit)) ≡ answerCycle answer (now (state .entry)) ⌝ }
+{
+    match answer {
+        Cycled::Ran(s) => {
+            save(s, state);
+            coded(RAN, 0, 0)
+        }
+        Cycled::Stopped(_) => coded(STOPPED, 0, 0),
+        Cycled::Refused(_, number, field) => coded(REFUSED, number, field),
+    }
+}
+
+// How a store is read: 0 is basic, any other number compatibility.
+fn reading_of(number: u8) -> Reading
+    ensures { λ r. ⌜ r ≡ readingOf number ⌝ }
+{
+    if number == 0 {
+        Reading::Basic
+    } else {
+        Reading::Compatibility
+    }
+}
+
+// One cycle.
 #[no_mangle]
 pub extern "C" fn panel_cycle(
     reading: u8,
@@ -109,11 +138,16 @@ pub extern "C" fn panel_cycle(
 ) -> u32
     ensures { λ r. ⌜ called r (now (main .exit)) (now (local .exit)) (now (state .exit)) ≡ cycleCall (readingOf reading) (now (store .entry)) (now (main .entry)) (now (local .entry)) (now (state .entry)) ⌝ }
 {
-    let code = (panel_run(reading, store, main, local, state, 1) % 0x1_0000_0000) as u32;
-    if code == SPENT as u32 {
-        return RAN as u32;
+    if state.len() < STATE {
+        return coded(REFUSED, 19, 0);
     }
-    code
+    let whole = Fence {
+        start: 0,
+        end: 65536,
+    };
+    let now = channels::loaded(state);
+    let answer = run::one(whole, reading_of(reading), store, main, local, now);
+    tell(answer, state)
 }
 
 fn ending_code(ending: Ending) -> u32
@@ -135,17 +169,6 @@ fn save_after(count: u32, s: State, state: &mut [u8])
         return;
     }
     save(s, state);
-}
-
-// How a store is read: 0 is basic, any other number compatibility.
-fn reading_of(number: u8) -> Reading
-    ensures { λ r. ⌜ r ≡ readingOf number ⌝ }
-{
-    if number == 0 {
-        Reading::Basic
-    } else {
-        Reading::Compatibility
-    }
 }
 
 // A run.
@@ -300,6 +323,59 @@ pub extern "C" fn panel_trap(address: u32, state: &mut [u8]) -> u32
     }
 }
 
+// Opens a session of two fences: 0, or 32.
+#[no_mangle]
+pub extern "C" fn panel_open(
+    main_len: usize,
+    a_start: usize,
+    a_end: usize,
+    b_start: usize,
+    b_end: usize,
+) -> u32
+    ensures { λ r. ⌜ r ≡ openOf «main_len» (record { start = «a_start»; end = «a_end» }) (record { start = «b_start»; end = «b_end» }) ⌝ }
+{
+    let a = Fence {
+        start: a_start,
+        end: a_end,
+    };
+    let b = Fence {
+        start: b_start,
+        end: b_end,
+    };
+    session::open(main_len, a, b) as u32
+}
+
+// One turn of a board.
+#[no_mangle]
+pub extern "C" fn panel_turn(
+    reading: u8,
+    store: &[u64],
+    main: &mut [u8],
+    local: &mut [u8],
+    state: &mut [u8],
+    start: usize,
+    end: usize,
+    other_start: usize,
+    other_end: usize,
+) -> u32
+    ensures { λ r. ⌜ called r (now (main .exit)) (now (local .exit)) (now (state .exit)) ≡ turnCall (record { start = start; end = end }) (record { start = «other_start»; end = «other_end» }) (readingOf reading) (now (store .entry)) (now (main .entry)) (now (local .entry)) (now (state .entry)) ⌝ }
+{
+    if state.len() < STATE {
+        return coded(REFUSED, 19, 0);
+    }
+    let own = Fence {
+        start: start,
+        end: end,
+    };
+    let other = Fence {
+        start: other_start,
+        end: other_end,
+    };
+    let now = channels::loaded(state);
+    let answer = session::turn(own, other, reading_of(reading), store, main, local, now);
+    tell(answer, state)
+}
+
 // The carry out, or the overflow, stands where a refusal's field stands.
 fn added_code(added: Added) -> u64
     ensures { λ r. ⌜ r ≡ addedCode added ⌝ }
@@ -324,6 +400,27 @@ pub extern "C" fn panel_add_decimal(
     ensures { λ r. ⌜ outcome r (now (main .exit)) (now (local .exit)) ≡ addDecimalCall (now (main .entry)) (now (local .entry)) first second length carry ⌝ }
 {
     added_code(decimal::add(main, local, first, second, length, carry != 0))
+}
+
+// The same inside a fence.
+#[no_mangle]
+pub extern "C" fn panel_add_decimal_in(
+    main: &mut [u8],
+    local: &mut [u8],
+    first: usize,
+    second: usize,
+    length: usize,
+    carry: u8,
+    start: usize,
+    end: usize,
+) -> u64
+    ensures { λ r. ⌜ outcome r (now (main .exit)) (now (local .exit)) ≡ addDecimalInCall (record { start = start; end = end }) (now (main .entry)) (now (local .entry)) first second length carry ⌝ }
+{
+    let fence = Fence {
+        start: start,
+        end: end,
+    };
+    added_code(session::add(fence, main, local, first, second, length, carry != 0))
 }
 
 // AP: first field += second field, both with their signs. The overflow stands where the carry out stands.

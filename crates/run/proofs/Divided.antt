@@ -9,9 +9,10 @@ use native.Mathlib.Omega.{arith}
 use borrow.Author.Tests.{ne-eqb}
 use lib.Dec.{eqb}
 use Rattle.digits.proofs.Truth.{zero-one, either-way}
-use Rattle.machine.specs.Cycle.{Outcome, cycleOf}
+use Rattle.machine.specs.Cycle.{Outcome, outcome, cycleIn}
 use Rattle.machine.specs.declared.Cycled.{Cycled}
-use Rattle.run.specs.Run.{Cycle, ended, onward, cyclesOf}
+use Rattle.machine.specs.declared.Cycled.the-variants as C
+use Rattle.run.specs.Run.{Cycle, ended, onward, cyclesOf, cycleBy}
 use Rattle.run.specs.Divided.{BudgetsDivide}
 use Rattle.run.specs.declared.Ending.{Ending}
 use Rattle.run.specs.declared.Ending.the-variants.{Stopped, Refused, Spent}
@@ -114,7 +115,7 @@ module _ {store : List ℕ} {cycle : Cycle} (law : Lawful store cycle) (a b : �
           (ap (together b r) second ∙ in-all law a b m ∙ right-begins cycle store m e (a + b) most, λ other some. second ∙ at-once cycle a b m r d other some)
 
 pub divided : BudgetsDivide
-divided reading a b store main local s first second whole most f g w =
+divided fence reading a b store main local s first second whole most f g w =
     record {
       state = ap (λ (z : Outcome Finished). z .answer .state) e;
       in-main = ap (λ (z : Outcome Finished). z .main) e;
@@ -124,8 +125,8 @@ divided reading a b store main local s first second whole most f g w =
       again = λ other some. g ∙ d .1 other (omega (arith, some));
     }
   where
-    law : Lawful store (cycleOf reading store)
-    law = lawful reading store
+    law : Lawful store (cycleIn fence reading store)
+    law = lawful fence reading store
 
     d : Divides law a b (machine s main local) most first
     d = subst (Divides law a b (machine s main local) most) (sym f) (divides law a b (machine s main local) most)
@@ -146,3 +147,16 @@ one-cycle {store} {cycle} law m = by-sizes cycle store m 1 (omega arith) (λ (r 
 
     right : Right store m → runFrom 1 0 cycle m ≡ once cycle (cycle (m .main) (m .local) (m .state))
     right e = turn 0 cycle (m .main) (m .local) (m .state) 0 _ _ _ refl
+
+-- and back: what it answered as a cycle is what the cycle answered
+one-back : (cycle : Cycle) (r : Cycled) (main local : List ℕ) → let z : Outcome Finished = once cycle (outcome r main local) in
+    outcome (cycleBy (z .answer .ending) (z .answer .state)) (z .main) (z .local) ≡ outcome r main local
+one-back cycle (C.Ran t) main local = ap (λ (z : Outcome Finished). outcome (cycleBy (z .answer .ending) (z .answer .state)) (z .main) (z .local)) (spent cycle main local t 1)
+one-back cycle (C.Stopped t) main local = refl
+one-back cycle (C.Refused t number field) main local = refl
+
+pub one-is : {store : List ℕ} {cycle : Cycle} → Lawful store cycle → (m : Machine) (f : Finished) (main local : List ℕ) → outcome f main local ≡ runAt cycle 1 store m
+    → outcome (cycleBy (f .ending) (f .state)) main local ≡ cycle (m .main) (m .local) (m .state)
+one-is {store} {cycle} law m f main local e =
+    let o : Outcome Cycled = cycle (m .main) (m .local) (m .state) in
+    ap (λ (z : Outcome Finished). outcome (cycleBy (z .answer .ending) (z .answer .state)) (z .main) (z .local)) (e ∙ one-cycle law m) ∙ one-back cycle (o .answer) (o .main) (o .local)

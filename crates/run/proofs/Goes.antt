@@ -8,7 +8,8 @@ use native.Mathlib.Omega.{arith}
 use lib.ListN.{length}
 use Rattle.digits.specs.Sizes.{sizesWrong}
 use Rattle.codes.specs.declared.Reading.{Reading}
-use Rattle.machine.specs.Cycle.{Outcome, outcome, cycleOf, refusalNumber}
+use Rattle.storage.specs.declared.Fence.{Fence}
+use Rattle.machine.specs.Cycle.{Outcome, outcome, cycleIn, refusalNumber}
 use Rattle.machine.proofs.Promises.{Kept, SameSizes}
 use Rattle.machine.proofs.Promises as known
 use Rattle.machine.specs.declared.State.{State}
@@ -81,17 +82,17 @@ pub record Lawful (store : List ℕ) (cycle : Cycle) : Type 0 where
   pub never-22 : (m : Machine) → refusalNumber (cycle (m .main) (m .local) (m .state) .answer) ≡ 22 → ⊥
   pub refusal-small : (main local : List ℕ) (s t : State) (n g : ℕ) → cycle main local s .answer ≡ C.Refused t n g → (n < 256) × (g < 256)
 
--- the machine's is such a one, under any reading
-pub lawful : (reading : Reading) (store : List ℕ) → Lawful store (cycleOf reading store)
-lawful reading store =
+-- the machine's is such a one, in any fence and under any reading
+pub lawful : (fence : Fence) (reading : Reading) (store : List ℕ) → Lawful store (cycleIn fence reading store)
+lawful fence reading store =
     record {
-      stop-keeps = known.stop-keeps reading store;
-      refusal-keeps = known.refusal-keeps reading store;
-      sizes-stay = known.sizes-stay reading store;
-      refused-by-1 = λ m. known.refused-by-1 reading store (m .main) (m .local) (m .state);
-      never-1 = λ m. known.never-1 reading store (m .main) (m .local) (m .state);
-      never-22 = λ m. known.never-22 reading store (m .main) (m .local) (m .state);
-      refusal-small = known.refusal-small reading store;
+      stop-keeps = known.stop-keeps fence reading store;
+      refusal-keeps = known.refusal-keeps fence reading store;
+      sizes-stay = known.sizes-stay fence reading store;
+      refused-by-1 = λ m. known.refused-by-1 fence reading store (m .main) (m .local) (m .state);
+      never-1 = λ m. known.never-1 fence reading store (m .main) (m .local) (m .state);
+      never-22 = λ m. known.never-22 fence reading store (m .main) (m .local) (m .state);
+      refusal-small = known.refusal-small fence reading store;
     }
 
 -- right sizes stay right

@@ -12,17 +12,20 @@ use Rattle.digits.specs.Refusal.{Check, first, Given}
 use Rattle.digits.specs.Sizes.{sizesWrong}
 use Rattle.digits.proofs.Refusals.{None, none-first, first-none, given-first, first-given, first-lt}
 use Rattle.digits.proofs.Sole.{sole}
+use Rattle.digits.proofs.Truth.{zero-one}
 use Rattle.machine.specs.Cycle.{Outcome, outcome, refusalNumber}
 use Rattle.machine.specs.declared.State.{State}
 use Rattle.machine.specs.declared.Cycled.{Cycled}
-use Rattle.run.specs.Run.{Cycle, ended, cyclesOf, runChecks, runBy, runOver, runOf, endingNumber}
+use Rattle.run.specs.Run.{Cycle, ended, cyclesOf, runChecks, runBy, runOver, runIn, endingNumber}
 use Rattle.run.specs.declared.Ending.{Ending}
 use Rattle.run.specs.declared.Ending.the-variants.{Stopped, Refused, Spent}
 use Rattle.run.specs.declared.Finished.{Finished}
 use Rattle.run.proofs.Runs.{refused-at-once, begins}
-use Rattle.run.proofs.Goes.{Machine, machine, Goes, here, Wrong, Right, Lawful, goes-right, Ends, runFrom, standing, done}
+use Rattle.run.proofs.Goes.{Machine, machine, Halts, Goes, here, Wrong, Right, Lawful, goes-right, Ends, runFrom, standing, done}
 use Rattle.run.proofs.refusal.Reads as refusal
+use Rattle.run.proofs.run_in.Reads as run-in
 use Rattle.run.proofs.run.Reads as run
+use Rattle.run.proofs.one.Reads as one
 
 -- 1 and 22: given by the list, nothing is done; given by none, the cycles begin
 module _ (cycle : Cycle) (budget : ℕ) (store main local : List ℕ) (s : State) where
@@ -99,6 +102,14 @@ module _ {store : List ℕ} {cycle : Cycle} (law : Lawful store cycle) (budget :
       let n : d .cycles ≡ r .answer .count = omega arith in
       by-checks (λ (x : Outcome Finished). Goes cycle (x .answer .count) m (standing x)) (λ k h. here) (subst (λ (j : ℕ). Goes cycle j m (standing r)) n (d .goes))
 
+  -- where it stopped the next cycle stops
+  pub run-halts : runOver cycle budget store main local s .answer .ending ≡ Stopped → Halts cycle (standing (runOver cycle budget store main local s))
+  run-halts =
+      let r : Outcome Finished = runFrom budget 0 cycle m in
+      let d = done law budget 0 m in
+      by-checks (λ (x : Outcome Finished). x .answer .ending ≡ Stopped → Halts cycle (standing x)) (λ k h e. absurd (zero-one cc))
+      (λ e. subst (λ (x : Ending). Ends cycle budget (d .cycles) x (standing r)) e (d .ends) .1)
+
   -- no more of them than its budget
   pub count-within : runOver cycle budget store main local s .answer .count ≤ budget
   count-within =
@@ -165,11 +176,17 @@ run-exactly {store} {cycle} law budget main local s n which = (to (first cs) ref
 pub refusal-sole : (κs : _) (args : _) (r q : ℕ) (x y : _) → refusal.Post κs args r x → refusal.Post κs args q y → r ≡ q
 refusal-sole κs args r q x y a b = sole a b
 
+pub run-in-sole : (κs : _) (args : _) (r q : Finished) (x y : _) → run-in.Post κs args r x → run-in.Post κs args q y → outcome r (now (x .1 .1 .1 .0)) (now (x .1 .1 .1 .1 .0)) ≡ outcome q (now (y .1 .1 .1 .0)) (now (y .1 .1 .1 .1 .0))
+run-in-sole κs args r q x y a b = sole a b
+
 pub run-sole : (κs : _) (args : _) (r q : Finished) (x y : _) → run.Post κs args r x → run.Post κs args q y → outcome r (now (x .1 .1 .0)) (now (x .1 .1 .1 .0)) ≡ outcome q (now (y .1 .1 .0)) (now (y .1 .1 .1 .0))
 run-sole κs args r q x y a b = sole a b
 
+pub one-sole : (κs : _) (args : _) (r q : Cycled) (x y : _) → one.Post κs args r x → one.Post κs args q y → outcome r (now (x .1 .1 .1 .0)) (now (x .1 .1 .1 .1 .0)) ≡ outcome q (now (y .1 .1 .1 .0)) (now (y .1 .1 .1 .1 .0))
+one-sole κs args r q x y a b = sole a b
+
 -- ---- what the statements of specs/Divided.antt ask of a run is what the contract promises, as the prover reads it
 
-pub run-promises : (κs : _) (args : _) (r : Finished) (x : _) → run.Post κs args r x
-    → outcome r (now (x .1 .1 .0)) (now (x .1 .1 .1 .0)) ≡ runOf (args .1 .1 .1 .1 .1 .0) (args .0) (now (args .1 .0)) (now (args .1 .1 .0)) (now (args .1 .1 .1 .0)) (args .1 .1 .1 .1 .0)
+pub run-promises : (κs : _) (args : _) (r : Finished) (x : _) → run-in.Post κs args r x
+    → outcome r (now (x .1 .1 .1 .0)) (now (x .1 .1 .1 .1 .0)) ≡ runIn (args .1 .1 .1 .1 .1 .1 .0) (args .0) (args .1 .0) (now (args .1 .1 .0)) (now (args .1 .1 .1 .0)) (now (args .1 .1 .1 .1 .0)) (args .1 .1 .1 .1 .1 .0)
 run-promises κs args r x promised = promised

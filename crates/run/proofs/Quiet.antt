@@ -10,11 +10,13 @@ use Rattle.digits.proofs.Truth.{zero-one}
 use Rattle.word.specs.Layout.{fieldsOf}
 use Rattle.word.specs.declared.Fields.{Fields}
 use Rattle.codes.specs.declared.Reading.{Reading}
-use Rattle.machine.specs.Cycle.{Outcome, wordAt, ranOf, cycleOf}
+use Rattle.storage.specs.Storage.{readsLocal, idle, accesses, accessOf}
+use Rattle.storage.specs.declared.Access.{Access}
+use Rattle.storage.specs.declared.Fence.{Fence}
+use Rattle.storage.specs.declared.Seen.{Seen}
+use Rattle.machine.specs.Cycle.{Outcome, seenOf, wordAt, ranOf, cycleIn}
 use Rattle.machine.specs.Sources.{entered}
-use Rattle.machine.specs.Storage.{readsLocal, idle, accesses, accessOf}
 use Rattle.machine.specs.declared.State.{State}
-use Rattle.machine.specs.declared.Access.{Access}
 use Rattle.machine.specs.declared.Cycled.{Cycled}
 use Rattle.machine.proofs.Promises.{ran-exactly, ran-fields}
 use Rattle.run.specs.Divided.{writes, Quiet, QuietKeeps}
@@ -23,7 +25,7 @@ use Rattle.run.proofs.Goes.{Machine, Leads, lawful, goes-keep}
 use Rattle.run.proofs.Promises.{run-goes}
 
 -- a byte is put in the rows of Write and Store alone
-puts-nothing : (cm : ℕ) (local : Bool) (s : State) → writes cm ≡ false → getD (accesses local s) cm (idle s) .puts ≡ false
+puts-nothing : (cm : ℕ) (local : Bool) (s : Seen) → writes cm ≡ false → getD (accesses local s) cm (idle s) .puts ≡ false
 puts-nothing zero local s h = absurd (zero-one cc)
 puts-nothing (suc zero) local s h = refl
 puts-nothing (suc (suc zero)) local s h = absurd (zero-one cc)
@@ -36,26 +38,27 @@ Holding main local m = (m .main ≡ main) × (m .local ≡ local)
 ran-holds : (reading : Reading) (f : Fields) (main local : List ℕ) (s : State) → writes (f .cm) ≡ false → (ranOf reading f main local s .main ≡ main) × (ranOf reading f main local s .local ≡ local)
 unfolding ranOf accessOf
 ran-holds reading f main local s h =
-    let e = puts-nothing (f .cm) (readsLocal (f .cu) (entered f s)) (entered f s) h in
+    let x : Seen = seenOf (entered f s) in
+    let e = puts-nothing (f .cm) (readsLocal (f .cu) x) x h in
     (rw e, rw e)
 
 -- a cycle that ran, of a word that is neither
-pub silent-holds : (reading : Reading) (store main local : List ℕ) (y z : Machine) → writes (fieldsOf (wordAt store (y .state)) .cm) ≡ false → Leads (cycleOf reading store) y z → Holding main local y → Holding main local z
-silent-holds reading store main local y z h o (same-main, same-local) =
+pub silent-holds : (fence : Fence) (reading : Reading) (store main local : List ℕ) (y z : Machine) → writes (fieldsOf (wordAt store (y .state)) .cm) ≡ false → Leads (cycleIn fence reading store) y z → Holding main local y → Holding main local z
+silent-holds fence reading store main local y z h o (same-main, same-local) =
     let f : Fields = fieldsOf (wordAt store (y .state)) in
-    let does = o ∙ ran-fields reading store (y .main) (y .local) (y .state) (z .state) (ap (λ (x : Outcome Cycled). x .answer) (sym o)) in
+    let does = o ∙ ran-fields fence reading store (y .main) (y .local) (y .state) (z .state) (ap (λ (x : Outcome Cycled). x .answer) (sym o)) in
     let (in-main, in-local) = ran-holds reading f (y .main) (y .local) (y .state) h in
     (ap (λ (x : Outcome Cycled). x .main) does ∙ in-main ∙ same-main, ap (λ (x : Outcome Cycled). x .local) does ∙ in-local ∙ same-local)
 
 -- every word of a quiet store is such a one
-cycle-holds : (reading : Reading) (store : List ℕ) → Quiet store → (main local : List ℕ) (y z : Machine) → Leads (cycleOf reading store) y z → Holding main local y → Holding main local z
-cycle-holds reading store quiet main local y z o =
+cycle-holds : (fence : Fence) (reading : Reading) (store : List ℕ) → Quiet store → (main local : List ℕ) (y z : Machine) → Leads (cycleIn fence reading store) y z → Holding main local y → Holding main local z
+cycle-holds fence reading store quiet main local y z o =
     let s : State = y .state in
-    let (none, on) = ran-exactly reading store (y .main) (y .local) s .0 (z .state, ap (λ (x : Outcome Cycled). x .answer) (sym o)) in
+    let (none, on) = ran-exactly fence reading store (y .main) (y .local) s .0 (z .state, ap (λ (x : Outcome Cycled). x .answer) (sym o)) in
     let word = each-in (λ (word : ℕ). writes (fieldsOf word .cm) ≡ false) store 0 quiet (s .wx) (leb-false (length store) (s .wx) (none .1 .0)) in
-    silent-holds reading store main local y z word o
+    silent-holds fence reading store main local y z word o
 
 pub quiet-keeps : QuietKeeps
-quiet-keeps reading budget store main local s whole quiet e =
-    let held = goes-keep (Holding main local) (cycle-holds reading store quiet main local) (run-goes (lawful reading store) budget main local s) (refl, refl) in
+quiet-keeps fence reading budget store main local s whole quiet e =
+    let held = goes-keep (Holding main local) (cycle-holds fence reading store quiet main local) (run-goes (lawful fence reading store) budget main local s) (refl, refl) in
     (ap (λ (x : Outcome Finished). x .main) e ∙ held .0, ap (λ (x : Outcome Finished). x .local) e ∙ held .1)

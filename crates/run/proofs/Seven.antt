@@ -5,5 +5,5 @@ use Rattle.run.specs.Run.{Cycle, runOver}
 use Rattle.run.specs.Seven.{RunAlike}
 
 pub run-alike : RunAlike
-run-alike budget store main local s none =
-    ap (λ (cycle : Cycle). runOver cycle budget store main local s) (λ i m l t. cycle-alike store m l t none i)
+run-alike budget fence store main local s none =
+    ap (λ (cycle : Cycle). runOver cycle budget store main local s) (λ i m l t. cycle-alike fence store m l t none i)

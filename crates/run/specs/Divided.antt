@@ -7,9 +7,10 @@ use lib.Dec.{eqb}
 use Rattle.digits.specs.Table.{among, Each}
 use Rattle.word.specs.Layout.{fieldsOf}
 use Rattle.codes.specs.declared.Reading.{Reading}
+use Rattle.storage.specs.declared.Fence.{Fence}
 use Rattle.machine.specs.Cycle.{Outcome}
 use Rattle.machine.specs.declared.State.{State}
-use Rattle.run.specs.Run.{ended, runOf}
+use Rattle.run.specs.Run.{ended, runIn}
 use Rattle.run.specs.declared.Ending.the-variants.{Spent}
 use Rattle.run.specs.declared.Finished.{Finished}
 
@@ -26,14 +27,14 @@ pub record Divided (b : ℕ) (first second whole : Outcome Finished) : Type 0 wh
   pub again : (first .answer .ending ≡ Spent → ⊥) → (b ≡ 0 → ⊥) → second ≡ ended (first .answer .ending) (first .answer .state) 0 (first .main) (first .local)
 
 -- "over every store and state .. a run of one budget followed by another from where it ended equals a run of their total, when the total is
--- at most 1,000,000". A run is what is promised of `run`, in whichever library.
+-- at most 1,000,000". A run is what is promised of `run_in`, in whichever fence, under whichever reading and in whichever library.
 abbrev pub BudgetsDivide : Type 0
 BudgetsDivide =
-    (reading : Reading) (a b : ℕ) (store main local : List ℕ) (s : State) (first second whole : Outcome Finished)
+    (fence : Fence) (reading : Reading) (a b : ℕ) (store main local : List ℕ) (s : State) (first second whole : Outcome Finished)
     → a + b ≤ 1000000
-    → first ≡ runOf a reading store main local s
-    → second ≡ runOf b reading store (first .main) (first .local) (first .answer .state)
-    → whole ≡ runOf (a + b) reading store main local s
+    → first ≡ runIn a fence reading store main local s
+    → second ≡ runIn b fence reading store (first .main) (first .local) (first .answer .state)
+    → whole ≡ runIn (a + b) fence reading store main local s
     → Divided b first second whole
 
 -- "CM 0 Write, .. 2 Store"
@@ -47,7 +48,7 @@ Quiet store = Each (λ (word : ℕ). writes (fieldsOf word .cm) ≡ false) store
 -- "leaves all storage as found in every run", whatever its ending
 abbrev pub QuietKeeps : Type 0
 QuietKeeps =
-    (reading : Reading) (budget : ℕ) (store main local : List ℕ) (s : State) (whole : Outcome Finished)
+    (fence : Fence) (reading : Reading) (budget : ℕ) (store main local : List ℕ) (s : State) (whole : Outcome Finished)
     → Quiet store
-    → whole ≡ runOf budget reading store main local s
+    → whole ≡ runIn budget fence reading store main local s
     → (whole .main ≡ main) × (whole .local ≡ local)

@@ -6,7 +6,9 @@ use lib.ListN.{length}
 use Rattle.digits.specs.Refusal.{Check, first}
 use Rattle.digits.specs.Sizes.{sizesWrong}
 use Rattle.codes.specs.declared.Reading.{Reading}
-use Rattle.machine.specs.Cycle.{Outcome, outcome, cycleOf}
+use Rattle.storage.specs.Storage.{whole}
+use Rattle.storage.specs.declared.Fence.{Fence}
+use Rattle.machine.specs.Cycle.{Outcome, outcome, cycleIn}
 use Rattle.machine.specs.declared.State.{State}
 use Rattle.machine.specs.declared.Cycled.{Cycled}
 use Rattle.machine.specs.declared.Cycled.the-variants as C
@@ -47,12 +49,22 @@ runBy zero budget cycle main local s = cyclesOf budget cycle main local s 0
 unfoldable pub runOver : Cycle → ℕ → List ℕ → List ℕ → List ℕ → State → Outcome Finished
 runOver cycle budget store main local s = runBy (first (runChecks (length store) (length main) (length local) budget)) budget cycle main local s
 
--- the machine's, under a reading
+-- the machine's, in a fence and under a reading
+abbrev pub runIn : ℕ → Fence → Reading → List ℕ → List ℕ → List ℕ → State → Outcome Finished
+runIn budget fence reading store main local s = runOver (cycleIn fence reading store) budget store main local s
+
+-- all main storage in the fence
 abbrev pub runOf : ℕ → Reading → List ℕ → List ℕ → List ℕ → State → Outcome Finished
-runOf budget reading store main local s = runOver (cycleOf reading store) budget store main local s
+runOf budget reading store main local s = runIn budget whole reading store main local s
 
 -- the paper's number of each ending, 0 where it does not refuse
 abbrev pub endingNumber : Ending → ℕ
 endingNumber Stopped = 0
 endingNumber (Refused number field) = number
 endingNumber Spent = 0
+
+-- the answer of a cycle, from a run of one
+abbrev pub cycleBy : Ending → State → Cycled
+cycleBy Spent s = C.Ran s
+cycleBy Stopped s = C.Stopped s
+cycleBy (Refused number field) s = C.Refused s number field

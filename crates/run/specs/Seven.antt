@@ -5,12 +5,13 @@ use mathlib.Core.List.{List}
 use mathlib.Core.Bool.{true}
 use Rattle.codes.specs.Seven.{usesNone}
 use Rattle.codes.specs.declared.Reading.the-variants.{Basic, Compatibility}
+use Rattle.storage.specs.declared.Fence.{Fence}
 use Rattle.machine.specs.declared.State.{State}
-use Rattle.run.specs.Run.{runOf}
+use Rattle.run.specs.Run.{runIn}
 
 -- its ending with a refusal's number and 10's field, its state, its count and both storages, whatever the budget
 abbrev pub RunAlike : Type 0
 RunAlike =
-    (budget : ℕ) (store main local : List ℕ) (s : State)
+    (budget : ℕ) (fence : Fence) (store main local : List ℕ) (s : State)
     → usesNone store ≡ true
-    → runOf budget Basic store main local s ≡ runOf budget Compatibility store main local s
+    → runIn budget fence Basic store main local s ≡ runIn budget fence Compatibility store main local s

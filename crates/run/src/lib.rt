@@ -1,11 +1,12 @@
 // A run: cycles until stop, refusal or budget.
 ghost use mathlib.Core.Path.{_≡_};
-ghost use Rattle.run.specs.Run.{cyclesOf, runChecks, runOf};
+ghost use Rattle.run.specs.Run.{cyclesOf, runChecks, runIn, runOf, cycleBy};
 ghost use Rattle.digits.specs.Refusal.{first};
-ghost use Rattle.machine.specs.Cycle.{outcome, cycleOf};
+ghost use Rattle.machine.specs.Cycle.{outcome, cycleIn};
 use codes::Reading;
 use machine::Cycled;
 use machine::State;
+use storage::Fence;
 
 pub enum Ending {
     Stopped,
@@ -31,6 +32,7 @@ fn ended(ending: Ending, state: State, count: u32) -> Finished
 }
 
 fn cycles(
+    fence: Fence,
     reading: Reading,
     store: &[u64],
     main: &mut [u8],
@@ -38,7 +40,7 @@ fn cycles(
     state: State,
     budget: u32,
 ) -> Finished
-    ensures { λ r. ⌜ outcome r (now (main .exit)) (now (local .exit)) ≡ cyclesOf budget (cycleOf reading (now (store .entry))) (now (main .entry)) (now (local .entry)) state 0 ⌝ }
+    ensures { λ r. ⌜ outcome r (now (main .exit)) (now (local .exit)) ≡ cyclesOf budget (cycleIn fence reading (now (store .entry))) (now (main .entry)) (now (local .entry)) state 0 ⌝ }
 {
     let mut now = state;
     let mut done: u32 = 0;
@@ -46,7 +48,7 @@ fn cycles(
         if done == budget {
             break ended(Ending::Spent, now, done);
         }
-        match machine::cycle(reading, store, main, local, now) {
+        match machine::cycle_in(fence, reading, store, main, local, now) {
             Cycled::Ran(next) => {
                 now = next;
                 done = done + 1;
@@ -69,7 +71,26 @@ pub fn refusal(store: usize, main: usize, local: usize, budget: u32) -> u8
     digits::first_of(wrong, 1, digits::first_of(1000000 < budget, 22, 0))
 }
 
-// A run of a store under a reading.
+// A run of a store in a fence and under a reading.
+pub fn run_in(
+    fence: Fence,
+    reading: Reading,
+    store: &[u64],
+    main: &mut [u8],
+    local: &mut [u8],
+    state: State,
+    budget: u32,
+) -> Finished
+    ensures { λ r. ⌜ outcome r (now (main .exit)) (now (local .exit)) ≡ runIn budget fence reading (now (store .entry)) (now (main .entry)) (now (local .entry)) state ⌝ }
+{
+    let number = refusal(store.len(), main.len(), local.len(), budget);
+    if number != 0 {
+        return ended(Ending::Refused(number, 0), state, 0);
+    }
+    cycles(fence, reading, store, main, local, state, budget)
+}
+
+// A run, all main storage in the fence.
 pub fn run(
     reading: Reading,
     store: &[u64],
@@ -80,9 +101,36 @@ pub fn run(
 ) -> Finished
     ensures { λ r. ⌜ outcome r (now (main .exit)) (now (local .exit)) ≡ runOf budget reading (now (store .entry)) (now (main .entry)) (now (local .entry)) state ⌝ }
 {
-    let number = refusal(store.len(), main.len(), local.len(), budget);
-    if number != 0 {
-        return ended(Ending::Refused(number, 0), state, 0);
+    let whole = Fence {
+        start: 0,
+        end: 65536,
+    };
+    run_in(whole, reading, store, main, local, state, budget)
+}
+
+// What a run of one answered, as a cycle.
+fn as_cycle(f: Finished) -> Cycled
+    ensures { λ r. ⌜ r ≡ cycleBy (f .ending) (f .state) ⌝ }
+{
+    let ending = f.ending;
+    let state = f.state;
+    match ending {
+        Ending::Stopped => Cycled::Stopped(state),
+        Ending::Refused(number, field) => Cycled::Refused(state, number, field),
+        Ending::Spent => Cycled::Ran(state),
     }
-    cycles(reading, store, main, local, state, budget)
+}
+
+// One cycle, as a run of one, so that a cycle has one caller.
+pub fn one(
+    fence: Fence,
+    reading: Reading,
+    store: &[u64],
+    main: &mut [u8],
+    local: &mut [u8],
+    state: State,
+) -> Cycled
+    ensures { λ r. ⌜ outcome r (now (main .exit)) (now (local .exit)) ≡ cycleIn fence reading (now (store .entry)) (now (main .entry)) (now (local .entry)) state ⌝ }
+{
+    as_cycle(run_in(fence, reading, store, main, local, state, 1))
 }

@@ -19,9 +19,9 @@ refusalWords =
     "CL = 2 and K to W, or a return, in one word" ∷  -- 8
     "PK is wrong" ∷  -- 9
     "a code is not modelled" ∷  -- 10
-    "the main address is not in main storage" ∷  -- 11
+    "the main address is not in main storage, or not in the fence" ∷  -- 11
     "the decimal length is not 1 to 16" ∷  -- 12
-    "a decimal field does not lie in main storage" ∷  -- 13
+    "a decimal field does not lie in main storage, or in the fence" ∷  -- 13
     "the decimal fields overlap and do not start together" ∷  -- 14
     "the deck's length is 0, no multiple of 512, or over 34304" ∷  -- 15
     "a block's number is not its place" ∷  -- 16
@@ -40,7 +40,7 @@ refusalWords =
     "a trap is open, and its return is owed" ∷  -- 29
     "the trap address is over 4095" ∷  -- 30
     "no such refusal" ∷  -- 31
-    "no such refusal" ∷  -- 32
+    "a fence is empty or outside main storage, or the two overlap" ∷  -- 32
     "the signed field is not of 8 bytes" ∷  -- 33
     []
 

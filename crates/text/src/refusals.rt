@@ -19,9 +19,9 @@ const LENGTHS: [u8; 34] = [
     43,
     11,
     22,
-    39,
+    60,
     33,
-    44,
+    61,
     52,
     57,
     33,
@@ -40,7 +40,7 @@ const LENGTHS: [u8; 34] = [
     38,
     29,
     15,
-    15,
+    60,
     34,
 ];
 
@@ -67,9 +67,9 @@ pub fn words(number: u8, room: &mut [u8]) -> Written
         CL = 2 and K to W, or a return, in one word                     \
         PK is wrong                                                     \
         a code is not modelled                                          \
-        the main address is not in main storage                         \
+        the main address is not in main storage, or not in the fence    \
         the decimal length is not 1 to 16                               \
-        a decimal field does not lie in main storage                    \
+        a decimal field does not lie in main storage, or in the fence   \
         the decimal fields overlap and do not start together            \
         the deck's length is 0, no multiple of 512, or over 34304       \
         a block's number is not its place                               \
@@ -88,7 +88,7 @@ pub fn words(number: u8, room: &mut [u8]) -> Written
         a trap is open, and its return is owed                          \
         the trap address is over 4095                                   \
         no such refusal                                                 \
-        no such refusal                                                 \
+        a fence is empty or outside main storage, or the two overlap    \
         the signed field is not of 8 bytes                              \
         ";
     let lengths = LENGTHS;

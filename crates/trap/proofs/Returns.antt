@@ -13,12 +13,14 @@ use Rattle.word.specs.Parity.{isReturn}
 use Rattle.word.specs.declared.Fields.{Fields}
 use Rattle.codes.specs.Status.{statuses}
 use Rattle.codes.specs.declared.Reading.{Reading}
+use Rattle.storage.specs.Storage.{readsLocal, idle, accesses, accessOf, mainAfter, localAfter}
+use Rattle.storage.specs.declared.Fence.{Fence}
+use Rattle.storage.specs.declared.Seen.{Seen}
 use Rattle.adder.specs.declared.Sum.{Sum}
 use Rattle.machine.specs.Sources.{entered, sumIn}
 use Rattle.machine.specs.Branch.{nextOf}
-use Rattle.machine.specs.Storage.{readsLocal, idle, accesses, accessOf, mainAfter, localAfter}
 use Rattle.machine.specs.Status.{into, saves, statusOf}
-use Rattle.machine.specs.Cycle.{Outcome, outcome, wordAt, ranOf, cycleOf}
+use Rattle.machine.specs.Cycle.{Outcome, outcome, seenOf, wordAt, ranOf, cycleIn}
 use Rattle.machine.specs.declared.State.{State}
 use Rattle.machine.specs.declared.Cycled.{Cycled}
 use Rattle.machine.specs.declared.Cycled.the-variants as C
@@ -30,16 +32,16 @@ use Rattle.trap.proofs.Calls.{taken-is}
 
 -- ---- the return word
 
-after-is : (reading : Reading) (store main local : List ℕ) (s u : State) → cycleOf reading store main local s .answer ≡ C.Ran u → afterFields reading (fieldsOf (wordAt store s)) main local s ≡ u
+after-is : (fence : Fence) (reading : Reading) (store main local : List ℕ) (s u : State) → cycleIn fence reading store main local s .answer ≡ C.Ran u → afterFields reading (fieldsOf (wordAt store s)) main local s ≡ u
 unfolding ranOf
-after-is reading store main local s u e =
-    let same : C.Ran (afterFields reading (fieldsOf (wordAt store s)) main local s) ≡ C.Ran u = sym (ap (λ (o : Outcome Cycled). o .answer) (ran-fields reading store main local s u e)) ∙ e in
+after-is fence reading store main local s u e =
+    let same : C.Ran (afterFields reading (fieldsOf (wordAt store s)) main local s) ≡ C.Ran u = sym (ap (λ (o : Outcome Cycled). o .answer) (ran-fields fence reading store main local s u e)) ∙ e in
     cc
 
 pub returns : Returns
 unfolding nextOf entered
-returns reading store main local s u e =
-    let is = after-is reading store main local s u e in (
+returns fence reading store main local s u e =
+    let is = after-is fence reading store main local s u e in (
       λ h. record {
         next = ap (λ (x : State). x .wx) (sym is) ∙ rw h;
         held = ap (λ (x : State). x .fwx) (sym is);
@@ -60,10 +62,10 @@ unfolding ranOf entered sumIn nextOf accessOf
 ran-resumes reading f main local address wx s h = rw h
 
 pub trap-returns : TrapReturns
-trap-returns reading store main local address s t u o taken h ran e =
+trap-returns fence reading store main local address s t u o taken h ran e =
     let f : Fields = fieldsOf (wordAt store t) in
     let (none, is) = taken-is address s t taken in
-    ran-fields reading store main local t u ran
+    ran-fields fence reading store main local t u ran
     ∙ ap (ranOf reading f main local) (sym is)
     ∙ ran-resumes reading f main local address (s .wx) s h
     ∙ ap (λ (x : Outcome Cycled). outcome (resumedAt (s .wx) (x .answer)) (x .main) (x .local)) (sym e)
@@ -85,7 +87,8 @@ fields-keep reading f main local s h =
     let z : Sum = sumIn f e in
     let to : (code old : ℕ) → into code (f .cd) (z .result) old ≡ into code 0 (z .result) old = λ code old i. into code (cd i) (z .result) old in
     let changed : (old : ℕ) → getD (statuses reading (z .result) old) (f .cs) old ≡ old = λ old i. getD (statuses reading (z .result) old) (cs i) old in
-    let access : accessOf f e ≡ idle e = λ i. getD (accesses (readsLocal (f .cu) e) e) (cm i) (idle e) in
+    let x : Seen = seenOf e in
+    let access : accessOf f x ≡ idle x = λ i. getD (accesses (readsLocal (f .cu) x) x) (cm i) (idle x) in
     let status : statusOf reading f z (into 6 (f .cd) (z .result) (e .s)) ≡ e .s =
     (λ i. cond (none i) (withBit (getD (statuses reading (z .result) (to 6 (e .s) i)) (f .cs) (to 6 (e .s) i)) 3 (z .ac)) (getD (statuses reading (z .result) (to 6 (e .s) i)) (f .cs) (to 6 (e .s) i)))
     ∙ changed (e .s) in (
@@ -96,11 +99,11 @@ fields-keep reading f main local s h =
 
 pub trap-leaves : TrapKeeps
 unfolding entered
-trap-leaves reading store main local address s t u taken h none ran =
+trap-leaves fence reading store main local address s t u taken h none ran =
     let f : Fields = fieldsOf (wordAt store t) in
     let (checks, is) = taken-is address s t taken in
     let (registers, (in-main, in-local)) = fields-keep reading f main local t none in
-    let does = ran-fields reading store main local t u ran in (
-      ap registersOf (sym (after-is reading store main local t u ran)) ∙ registers ∙ ap (λ (x : State). registersOf (entered f x)) (sym is),
+    let does = ran-fields fence reading store main local t u ran in (
+      ap registersOf (sym (after-is fence reading store main local t u ran)) ∙ registers ∙ ap (λ (x : State). registersOf (entered f x)) (sym is),
       (ap (λ (o : Outcome Cycled). o .main) does ∙ in-main, ap (λ (o : Outcome Cycled). o .local) does ∙ in-local),
     )

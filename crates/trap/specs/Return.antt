@@ -8,9 +8,10 @@ use Rattle.word.specs.Layout.{fieldsOf}
 use Rattle.word.specs.Parity.{isReturn}
 use Rattle.word.specs.declared.Fields.{Fields}
 use Rattle.codes.specs.declared.Reading.{Reading}
+use Rattle.storage.specs.declared.Fence.{Fence}
 use Rattle.machine.specs.Sources.{entered}
 use Rattle.machine.specs.Status.{saves}
-use Rattle.machine.specs.Cycle.{Outcome, outcome, wordAt, ranOf, cycleOf}
+use Rattle.machine.specs.Cycle.{Outcome, outcome, wordAt, ranOf, cycleIn}
 use Rattle.machine.specs.declared.State.{State}
 use Rattle.machine.specs.declared.Cycled.{Cycled}
 use Rattle.machine.specs.declared.Cycled.the-variants as C
@@ -37,8 +38,8 @@ pub record StillOpen (s u : State) : Type 0 where
 -- a cycle that ran, by whether its word is a return word
 abbrev pub Returns : Type 0
 Returns =
-    (reading : Reading) (store main local : List ℕ) (s u : State)
-    → cycleOf reading store main local s .answer ≡ C.Ran u
+    (fence : Fence) (reading : Reading) (store main local : List ℕ) (s u : State)
+    → cycleIn fence reading store main local s .answer ≡ C.Ran u
     → (returnsNext store s ≡ true → Returned s u) × (returnsNext store s ≡ false → StillOpen s u)
 
 -- ---- "A trap then return word resumes at the very word broken into"
@@ -52,12 +53,12 @@ resumedAt wx (C.Refused u number field) = C.Refused u number field
 -- all else is what the fields of the return word do to the state broken into
 abbrev pub TrapReturns : Type 0
 TrapReturns =
-    (reading : Reading) (store main local : List ℕ) (address : ℕ) (s t u : State) (o : Outcome Cycled)
+    (fence : Fence) (reading : Reading) (store main local : List ℕ) (address : ℕ) (s t u : State) (o : Outcome Cycled)
     → trapOf address s ≡ Taken t
     → returnsNext store t ≡ true
-    → cycleOf reading store main local t .answer ≡ C.Ran u
+    → cycleIn fence reading store main local t .answer ≡ C.Ran u
     → o ≡ ranOf reading (fieldsOf (wordAt store t)) main local s
-    → cycleOf reading store main local t ≡ outcome (resumedAt (s .wx) (o .answer)) (o .main) (o .local)
+    → cycleIn fence reading store main local t ≡ outcome (resumedAt (s .wx) (o .answer)) (o .main) (o .local)
 
 -- "I J U V L T D R S G H M N"
 abbrev pub registersOf : State → List ℕ
@@ -70,9 +71,9 @@ changesNone f = eqb (f .cm) 1 && (eqb (f .cd) 0 && (eqb (f .cs) 0 && not (saves 
 -- where the return word is such a one, every register is as it was, but that a byte that was arriving is in R; and so are both storages
 abbrev pub TrapKeeps : Type 0
 TrapKeeps =
-    (reading : Reading) (store main local : List ℕ) (address : ℕ) (s t u : State)
+    (fence : Fence) (reading : Reading) (store main local : List ℕ) (address : ℕ) (s t u : State)
     → trapOf address s ≡ Taken t
     → returnsNext store t ≡ true
     → changesNone (fieldsOf (wordAt store t)) ≡ true
-    → cycleOf reading store main local t .answer ≡ C.Ran u
-    → (registersOf u ≡ registersOf (entered (fieldsOf (wordAt store t)) s)) × ((cycleOf reading store main local t .main ≡ main) × (cycleOf reading store main local t .local ≡ local))
+    → cycleIn fence reading store main local t .answer ≡ C.Ran u
+    → (registersOf u ≡ registersOf (entered (fieldsOf (wordAt store t)) s)) × ((cycleIn fence reading store main local t .main ≡ main) × (cycleIn fence reading store main local t .local ≡ local))

@@ -1,23 +1,25 @@
-//! The board's program: all that it prints of additions, runs, readings, traps, lamps and the walk, byte for byte beside the
-//! second engine's text; and all that it tells on standard error, with the status that its root command ends with.
+//! The board's program: all that it prints of additions, runs, readings, traps, two boards, lamps and the walk, byte for byte
+//! beside the second engine's text; and all that it tells on standard error, with the status that its root command ends with.
 
 #[path = "../../second/tests/common/mod.rs"]
 mod common;
 
+use common::fences::{self, draw_fences, draw_seated, fence};
 use common::{one_of, running_word, Bench, Codes, SEVEN, STOP};
 use programs::{
     breaking, command, deck_of, failing_reads, file, folder, lesson, mend, root, run, said, said_to, said_to_full,
     typed_in, Said,
 };
-use second::board::{self, in_words, Trap, View};
+use second::board::{self, in_words, Trap, Two, View};
 use second::deck::{words_of, BLOCK, LONGEST};
 use second::panel::STATE;
 use second::random::Random;
 use second::reading::Reading::{self, Basic, Compatibility};
 use second::run::Ending;
+use second::session::Fence;
 use second::shipped;
 use second::signed::write_signed;
-use second::state::{State, G, I, J, M, N, R, S};
+use second::state::{State, G, I, J, L, M, N, R, S, T, U, V};
 use second::word::build;
 use std::collections::BTreeSet;
 use std::fs::{self, File};
@@ -465,7 +467,13 @@ fn endings_name_the_address() {
     ends(&here, &[], &[0], &["9", "WX=3"], "STOPPED AT 003");
     ends(&here, &[], &[0], &["9", "WX=4"], "REFUSED 2 AT 004: WX is not in the word store");
     ends(&here, read, &[7], &["9", "J=0"], "STOPPED AT 001");
-    ends(&here, read, &[7], &["9", "J=1"], "REFUSED 11 AT 000: the main address is not in main storage");
+    ends(
+        &here,
+        read,
+        &[7],
+        &["9", "J=1"],
+        "REFUSED 11 AT 000: the main address is not in main storage, or not in the fence",
+    );
 }
 
 /// The first and the last byte of the smallest and the largest image: both are read.
@@ -978,6 +986,449 @@ fn a_trap_is_asked_for_in_large_letters_and_small_among_the_others() {
     prints(&[&["run", &deck, &main, "9"], &strs(&arguments)[..]].concat(), &text);
 }
 
+// ---- two boards
+
+/// Two boards at one deck and one image, as they are asked for; of a pair, the first is board A's. The bench's own state is not
+/// used.
+struct Pair {
+    bench: Bench,
+    reading: Option<Reading>,
+    fences: [Fence; 2],
+    order: String,
+    starts: [State; 2],
+    turns: u64,
+}
+
+const BOTH: [&str; 2] = ["A", "B"];
+
+impl Pair {
+    /// All that stands before the options, in a test's own folder.
+    fn command(&self, here: &Path) -> Vec<String> {
+        let Files { deck, main } = files(here, &self.bench.store, &self.bench.main);
+        let [a, b] = self.fences.map(|Fence { start, end }| format!("{start:X}:{end:X}"));
+        vec!["two".to_owned(), deck, main, self.turns.to_string(), a, b, self.order.clone()]
+    }
+
+    /// The registers of each that are not 0, as A.I=01.
+    fn registers(&self) -> Vec<String> {
+        let named =
+            |which: usize| given(&self.starts[which]).into_iter().map(move |each| format!("{}.{each}", BOTH[which]));
+        (0..2).flat_map(named).collect()
+    }
+
+    fn expected(&self, view: &View) -> Result<(String, [bool; 2]), u8> {
+        let Pair { bench: Bench { store, main, .. }, fences, order, starts, turns, .. } = self;
+        let (reading, fences, starts, turns) = (in_force(self.reading), *fences, *starts, *turns);
+        board::two(&Two { reading, store, main, fences, order, starts, turns }, view)
+    }
+
+    /// How many of the turns are a board's, whether they pass or not.
+    fn turns_of(&self, letter: &str) -> usize {
+        let own = |each: &char| each.to_string().eq_ignore_ascii_case(letter);
+        self.order.chars().cycle().take(self.turns as usize).filter(own).count()
+    }
+}
+
+const NO_FENCES: &str = "the fences are refused by 32: a fence is empty or outside main storage, or the two overlap";
+
+/// What is told of a board that was refused, or of neither.
+fn told_of_two(refused: [bool; 2]) -> String {
+    let told = |(letter, refused)| if refused { format!("board: board {letter} was refused\n") } else { String::new() };
+    BOTH.into_iter().zip(refused).map(told).collect()
+}
+
+/// Two boards print what the second engine prints, and it is told which of them were refused. Gives what was printed.
+fn takes_turns(here: &Path, pair: &Pair, view: &View) -> String {
+    let mut arguments = pair.command(here);
+    arguments.extend(pair.registers());
+    arguments.extend(pair.reading.map(|reading| spelt(reading).to_owned()));
+    let arguments = viewed(arguments, view);
+    let (text, told) = match pair.expected(view) {
+        Ok((text, refused)) => (text, told_of_two(refused)),
+        Err(number) => {
+            assert_eq!(number, 32);
+            (String::new(), format!("board: {NO_FENCES}\n"))
+        }
+    };
+    let said = board(&strs(&arguments));
+    same(&said.out, &text, &strs(&arguments));
+    let status = i32::from(!told.is_empty());
+    assert_eq!((said.err, said.status), (told, Some(status)), "{arguments:?}");
+    text
+}
+
+/// The page's: A adds 38 and 47 at 100 and 101, B 99 and 1 at 200 and 201, both by the shipped words.
+fn sharing(order: &str, turns: u64) -> Pair {
+    let mut bench = Bench { store: shipped::SHIPPED.to_vec(), main: vec![0; 1024], ..stops(1) };
+    for (at, byte) in [(0x100, 0x38), (0x101, 0x47), (0x200, 0x99), (0x201, 0x01)] {
+        bench.main[at] = byte;
+    }
+    let starts = [0x100, 0x200].map(|first| shipped::start(first, first + 1, 1, false));
+    let fences = [fence(0x100, 0x102), fence(0x200, 0x202)];
+    Pair { bench, reading: None, fences, order: order.to_owned(), starts, turns }
+}
+
+/// The cycle that adds, and the last one, of each. B's carry out is in S3 and in H, which the last word tries.
+#[test]
+fn two_additions_are_as_they_were_set_out() {
+    let here = folder("board_sharing");
+    let head = "    CYCLE  AT  I  J  U  V  L  T  D  R  S  G  H  M  N   WX AC 1BC Z0 AW LS AR AB DC INV  FWX OW  A GA  B GB EB CI BEFORE AFTER";
+    let sums = [
+        "A      15 011 01 00 01 01 01 01 47 85 00 00 00 01 00 0012  0   0  0  1  0  0 00  1   0 0000  0 38 38 47 47 AD  0     E5    85",
+        "B      15 011 02 00 02 01 01 01 01 00 10 00 00 02 00 0012  1   1  1  1  0  0 00  1   0 0000  0 99 99 01 01 67  0     00    00",
+    ];
+    let last = [
+        "A      18 00B 01 00 01 01 01 00 47 85 00 00 00 01 00 0014  0   0  0  0  0  0 00  0   0 0000  0 00 00 FF FF FF  0     FF    FF",
+        "B      18 00B 02 00 02 01 01 00 01 00 10 00 01 02 00 0014  1   1  1  0  0  0 00  1   0 0000  0 01 01 FF FF FF  0     00    00",
+    ];
+    let stopped = ["A STOPPED AT 014", "B STOPPED AT 014"];
+    let of = |turns: u64, view: (&str, &str), lines: &[&str]| {
+        let pair = sharing("AB", turns);
+        let all = [pair.command(&here), pair.registers()].concat();
+        let all = [&strs(&all)[..], &[view.0, view.1]].concat();
+        prints(&all, &(lines.join("\n") + "\n"));
+    };
+    of(60, ("FROM=15", "TO=15"), &[&[head], &sums[..], &stopped].concat());
+    of(38, ("FROM=18", "TO=18"), &[&[head], &last[..], &stopped].concat());
+    // One turn fewer, and B has none left for the stop.
+    of(37, ("FROM=18", "TO=18"), &[&[head], &last[..], &stopped[..1], &["B SPENT AT 014"]].concat());
+    of(36, ("FROM=99", "TO=99"), &[head, "A SPENT AT 014", "B SPENT AT 014"]);
+    for turns in [0, 1, 2, 3, 36, 37, 38, 39, 60, 1_000_000] {
+        takes_turns(&here, &sharing("AB", turns), &View::LINES);
+    }
+}
+
+/// A's second field is at 101. It is refused by 11, and B adds all the same.
+#[test]
+fn a_fence_that_ends_before_a_field_refuses_its_board() {
+    let here = folder("board_short");
+    let refused = "REFUSED 11 AT 002: the main address is not in main storage, or not in the fence";
+    let all = &View { from: 99, ..View::LINES };
+    for (which, short) in [(0, fence(0x100, 0x101)), (1, fence(0x200, 0x201)), (0, fence(0, 0x100))] {
+        let mut pair = sharing("AB", 60);
+        pair.fences[which] = short;
+        let text = takes_turns(&here, &pair, all);
+        let (own, other) = (BOTH[which], BOTH[1 - which]);
+        let lines: Vec<&str> = text.lines().skip(1).collect();
+        assert_eq!(lines, [format!("{own} {refused}"), format!("{other} STOPPED AT 014")]);
+    }
+    // Both, and then nothing goes on.
+    let mut pair = sharing("BA", 60);
+    pair.fences = [fence(0x100, 0x101), fence(0x200, 0x201)];
+    let text = takes_turns(&here, &pair, all);
+    assert_eq!(text.lines().skip(1).collect::<Vec<_>>(), [format!("B {refused}"), format!("A {refused}")]);
+}
+
+/// The lines of a board, without its letter.
+fn own_lines(text: &str, letter: &str) -> Vec<String> {
+    text.lines().filter_map(|line| line.strip_prefix(&format!("{letter} "))).map(str::to_owned).collect()
+}
+
+/// What `board run` prints of one of the two, headings apart, for as many cycles as it has turns.
+fn alone(here: &Path, pair: &Pair, which: usize) -> Vec<String> {
+    let Files { deck, main } = files(here, &pair.bench.store, &pair.bench.main);
+    let turns = pair.turns_of(BOTH[which]).to_string();
+    let registers = given(&pair.starts[which]);
+    let said = board(&[&["run", &deck, &main, &turns], &strs(&registers)[..]].concat());
+    said.text().lines().skip(1).map(str::to_owned).collect()
+}
+
+/// Where B is at its stop word, at no word at all, or adds like A; and where it has no turn.
+#[test]
+fn a_board_prints_what_it_prints_alone() {
+    let here = folder("board_alone");
+    for wx in [0x14, 0xFFF, 0] {
+        for (order, turns) in
+            [("A", 30), ("AB", 50), ("BA", 50), ("AAB", 20), ("ABBB", 90), ("BBAAABA", 40), ("ba", 21), ("B", 9)]
+        {
+            let mut pair = sharing(order, turns);
+            pair.starts[1].wx = wx;
+            let text = takes_turns(&here, &pair, &View::LINES);
+            for (which, letter) in BOTH.into_iter().enumerate() {
+                assert_eq!(own_lines(&text, letter), alone(&here, &pair, which), "{letter} of {order} at {wx:03X}");
+            }
+            let lines: usize = BOTH.iter().map(|letter| own_lines(&text, letter).len()).sum();
+            assert_eq!(lines + 1, text.lines().count());
+        }
+    }
+}
+
+/// Both add L to the byte 05 of local storage, A one and B seven: neither finds what the other has put there.
+#[test]
+fn each_board_has_a_local_storage_of_its_own() {
+    let here = folder("board_two_local");
+    let mut bench = stops(3);
+    bench.then(0, 1, &[("CM", 3), ("CU", 1)]);
+    bench.then(1, 2, &[("CA", 7), ("CB", 1), ("CF", 3), ("CG", 3), ("CD", 7)]);
+    bench.then(2, 0, &[("CM", 0)]);
+    bench.set(&[(J, 5), (L, 1)]);
+    let mut starts = [bench.state; 2];
+    starts[1].registers[L] = 7;
+    for order in ["AB", "BBA", "AAABB"] {
+        let (fences, order) = ([fence(0, 1), fence(1, 2)], order.to_owned());
+        let pair = Pair { bench: bench.clone(), reading: None, fences, order, starts, turns: 60 };
+        let text = takes_turns(&here, &pair, &View::LINES);
+        for (which, (letter, each)) in BOTH.into_iter().zip([1, 7]).enumerate() {
+            let lines = own_lines(&text, letter);
+            assert_eq!(lines, alone(&here, &pair, which));
+            // R in the third cycle of each three
+            let sums = lines.iter().skip(3).step_by(3).take(6).map(|line| line[33..35].to_owned());
+            assert!(sums.eq((1..=6).map(|count| format!("{:02X}", count * each))), "{letter} of {text}");
+        }
+    }
+}
+
+/// A stops at its first turn or is refused there: B has every second turn, and no more for it.
+#[test]
+fn turns_that_pass_are_counted() {
+    let here = folder("board_pass");
+    for (wx, line) in [(0x14, "A STOPPED AT 014"), (0x15, "A REFUSED 2 AT 015: WX is not in the word store")] {
+        for (turns, end) in
+            [(20, "B SPENT AT 00D"), (36, "B SPENT AT 014"), (37, "B SPENT AT 014"), (38, "B STOPPED AT 014")]
+        {
+            let mut pair = sharing("AB", turns);
+            pair.starts[0].wx = wx;
+            let text = takes_turns(&here, &pair, &View { from: 1, ..View::LINES });
+            let lines: Vec<&str> = text.lines().collect();
+            assert_eq!((lines[1], lines.last()), (line, Some(&end)), "{turns} turns");
+            assert_eq!(lines.len() as u64, 3 + (turns / 2).min(18), "{turns} turns");
+        }
+    }
+}
+
+/// No turn: both are where they began, even at a stop or at no word.
+#[test]
+fn no_turn_is_two_starts_and_two_endings() {
+    let here = folder("board_no_turn");
+    let mut pair = sharing("BA", 0);
+    for (a, b) in [(0, 0), (0x14, 0xABC)] {
+        [pair.starts[0].wx, pair.starts[1].wx] = [a, b];
+        let text = takes_turns(&here, &pair, &View::LINES);
+        let short: Vec<String> = text.lines().skip(1).map(|line| line.chars().take(14).collect()).collect();
+        let [first, second] = [(a, "A"), (b, "B")].map(|(wx, letter)| format!("{letter} SPENT AT {wx:03X}"));
+        assert_eq!(short, ["A       0 --- ", "B       0 --- ", &first, &second]);
+        let text = takes_turns(&here, &pair, &View { from: 1, ..View::LINES });
+        assert_eq!(text.lines().skip(1).collect::<Vec<_>>(), [first, second]);
+    }
+}
+
+/// Of one letter, of 64, and in small letters; an order is begun again, or not come to its end.
+#[test]
+fn an_order_has_one_to_64_letters() {
+    let here = folder("board_orders");
+    let longest = "AABBA".repeat(13)[1..].to_owned();
+    assert_eq!(longest.len(), 64);
+    for order in ["A", "b", "AB", "aB", "bBa", &longest, &longest.to_lowercase(), &("A".repeat(63) + "B")] {
+        for turns in [1, 63, 64, 65, 130] {
+            takes_turns(&here, &sharing(order, turns), &View::LINES);
+        }
+    }
+    let of = |order: &str| takes_turns(&here, &sharing(order, 50), &View::LINES);
+    assert_eq!(of("AbBa"), of("ABBA"));
+    assert_ne!(of("ABBA"), of("ABAB"));
+}
+
+/// Each register of each board, the readings, FROM and TO, in large letters and small and in any order.
+#[test]
+fn a_board_is_given_its_own_registers() {
+    let (here, mut pair) = (folder("board_given"), sharing("AB", 4));
+    pair.bench = endless();
+    let starts: [State; 2] = [0xF1, 0x2E].map(|first| State {
+        registers: std::array::from_fn(|place| first - 2 * place as u8),
+        wx: u16::from(first == 0x2E),
+        ..State::default()
+    });
+    for (which, start) in starts.into_iter().enumerate() {
+        pair.starts = [State::default(); 2];
+        pair.starts[which] = start;
+        takes_turns(&here, &pair, &View::LINES);
+    }
+    pair.starts = starts;
+    let view = View { from: 1, to: 2, ..View::LINES };
+    let text = takes_turns(&here, &pair, &view);
+    let mut options = [&pair.registers()[..], &["FROM=1", "READING=B", "TO=2"].map(str::to_owned)].concat();
+    let command = pair.command(&here);
+    for turn in 0..options.len() {
+        options.rotate_left(7);
+        let small =
+            |(place, each): (usize, &String)| if place % 2 == turn % 2 { each.to_lowercase() } else { each.clone() };
+        let spelt: Vec<String> = options.iter().enumerate().map(small).collect();
+        prints(&strs(&[&command[..], &spelt].concat()), &text);
+    }
+    for (spelt, value) in [("A.wX=1", 1), ("a.Wx=01", 1), ("A.WX=fFf", 0xFFF)] {
+        pair.starts = [State { wx: value, ..State::default() }, State::default()];
+        let (text, _) = pair.expected(&View::LINES).expect("right fences");
+        same(&board(&strs(&[&command[..], &[spelt.to_owned()]].concat())).out, &text, &[spelt]);
+    }
+}
+
+/// CL 6 is 1BC in basic and R1 in compatibility, for either board.
+#[test]
+fn one_reading_serves_both_boards() {
+    let here = folder("board_two_read");
+    let bench = branching();
+    let starts = [bench.state, State { wx: 1, ..bench.state }];
+    let fences = [fence(0, 1), fence(1, 2)];
+    let [none, basic, compatibility] = READINGS.map(|reading| {
+        let pair = Pair { bench: bench.clone(), reading, fences, order: "AB".to_owned(), starts, turns: 20 };
+        takes_turns(&here, &pair, &View::LINES)
+    });
+    assert!(none == basic && none != compatibility);
+    for letter in BOTH {
+        assert_ne!(own_lines(&basic, letter), own_lines(&compatibility, letter));
+    }
+}
+
+/// The addition has 18 cycles; FROM and TO count each board's own.
+#[test]
+fn each_board_shows_the_cycles_asked_for() {
+    let here = folder("board_two_edges");
+    for (from, to) in EDGES {
+        for (order, turns) in [("AB", 60), ("BAA", 25)] {
+            takes_turns(&here, &sharing(order, turns), &View { from, to, ..View::LINES });
+        }
+    }
+}
+
+/// In large letters and small. A adds the last two bytes of its fence, and B its own first and main storage's last.
+#[test]
+fn a_fence_is_typed_in_one_to_five_digits() {
+    let (here, mut pair) = (folder("board_fence_digits"), sharing("AB", 60));
+    pair.bench.main = vec![7; 65_536];
+    pair.fences = [fence(0xA, 0xFACE), fence(0xFACE, 0x10000)];
+    pair.starts = [[0xFACD, 0xFACC], [0xFACE, 0xFFFF]].map(|[one, two]| shipped::start(one, two, 1, false));
+    let (text, refused) = pair.expected(&View::LINES).expect("right fences");
+    assert_eq!(refused, [false; 2]);
+    let (command, registers) = (pair.command(&here), pair.registers());
+    for [a, b] in
+        [["A:FACE", "FACE:10000"], ["a:face", "fAcE:10000"], ["0A:0FACE", "FACE:10000"], ["0000a:FACE", "0face:10000"]]
+    {
+        prints(&[&strs(&command[..4])[..], &[a, b, "AB"], &strs(&registers)].concat(), &text);
+    }
+}
+
+/// Over and over: a read at IJ, UV or LT, one that moves the address, a write there, and one register counts up. What is written
+/// is one more than what was read. The kinds of storage are those of CU; one store in four stops somewhere.
+fn walking(random: &mut Random, kinds: &[u8]) -> Bench {
+    let rounds = one_of(random, &[1, 4, 16]);
+    let words = 4 * rounds;
+    let mut bench = stops(words);
+    let up: Codes = &[("CF", 3), ("CG", 1), ("CB", 3), ("CK", 1)];
+    for round in 0..rounds {
+        let at = 4 * round;
+        let [first, second] = [0; 2].map(|_| one_of(random, &[3, 4, 5]));
+        let [cu, moved] = [0; 2].map(|_| one_of(random, kinds));
+        let count = one_of(random, &[14, 14, 12, 12, 11, 15]);
+        bench.then(at, at + 1, &[("CM", first), ("CU", cu)]);
+        bench.then(at + 1, at + 2, &[up, &[("CM", second), ("CU", moved), ("CA", 7), ("CD", 7)]].concat());
+        bench.then(at + 2, at + 3, &[("CM", one_of(random, &[0, 0, 2]))]);
+        bench.then(at + 3, (at + 4) % words, &[up, &[("CA", count), ("CD", count)]].concat());
+    }
+    if random.below(4) == 0 {
+        bench.put(random.below(words as u64) as usize, STOP);
+    }
+    bench
+}
+
+/// An order of 1 to 64 letters, in which one board may have most turns.
+fn drawn_order(random: &mut Random) -> String {
+    let count = one_of(random, &[1, 2, 2, 3, 5, 8, 63, 64]);
+    let letters = one_of(random, &["AB", "AB", "ab", "AAAB", "abbbB", "AbBa"]).as_bytes();
+    (0..count).map(|_| char::from(one_of(random, letters))).collect()
+}
+
+/// Words of any codes, or words that walk through their fences; registers at the edges of fences that are mostly right.
+fn drawn_pair(random: &mut Random) -> Pair {
+    let (reading, local) = (one_of(random, &READINGS), random.below(4) == 0);
+    let mut bench = match random.below(2) {
+        0 => drawn_for(random, in_force(reading)),
+        _ => walking(random, if local { &[1] } else { &[0, 0, 0, 1, 3] }),
+    };
+    let size = one_of(random, &[2, 3, 16, 255, 256, 257, 1024, 1024, 65_536]);
+    bench.main = common::draw_bytes(random, size);
+    // No more than five digits can be typed.
+    let fences = draw_fences(random, size, 24).map(|Fence { start, end }| fence(start.min(0xFFFFF), end.min(0xFFFFF)));
+    let words = bench.store.len();
+    let [a, b] = fences;
+    let starts = [[a, b], [b, a]].map(|fences| {
+        let State { mut registers, wx, .. } = draw_seated(random, words, fences);
+        // The two meet at the same few bytes of local storage, each in its own.
+        for low in [J, V, T].into_iter().filter(|_| local) {
+            registers[low] &= 3;
+        }
+        State { registers, wx: if random.below(24) == 0 { 0xFFF } else { wx }, ..State::default() }
+    });
+    let turns = one_of(random, &[0, 1, 2, 3, 12, 40, 40, 100, 100, 400]);
+    Pair { bench, reading, fences, order: drawn_order(random), starts, turns }
+}
+
+/// All cycles, or some of them.
+fn drawn_view(random: &mut Random) -> View {
+    if random.below(2) == 0 {
+        return View::LINES;
+    }
+    let from = one_of(random, &[0, 0, 1, 2, 7, 30]);
+    let to = one_of(random, &[from, from + 1, from + 9, u64::MAX, u64::MAX]);
+    View { from, to, ..View::LINES }
+}
+
+/// How each of some texts may end for a board, and how many of them do.
+fn count_endings(texts: &[String]) -> Vec<(String, usize)> {
+    let starts = ["STOPPED", "REFUSED 11 ", "REFUSED 10 ", "REFUSED 2 ", "SPENT"];
+    let all = BOTH.iter().flat_map(|letter| starts.map(|start| format!("{letter} {start}")));
+    let count = |start: &String| texts.iter().filter(|text| text.lines().any(|line| line.starts_with(start))).count();
+    all.map(|start| (start.clone(), count(&start))).collect()
+}
+
+#[test]
+fn drawn_boards_take_turns() {
+    let (random, here) = (&mut Random::new(137), folder("board_two_drawn"));
+    let texts: Vec<String> = (0..400)
+        .map(|_| {
+            let (pair, view) = (drawn_pair(random), drawn_view(random));
+            takes_turns(&here, &pair, &view)
+        })
+        .collect();
+    for (start, count) in count_endings(&texts) {
+        assert!(count > 9, "{start}: {count}");
+    }
+    let empty = texts.iter().filter(|text| text.is_empty()).count();
+    assert!(empty > 4, "{empty} pairs of fences are refused");
+}
+
+/// A read at an address; or a read at one that is inside, one that moves the address, and a write there.
+fn reaching(writes: bool, inside: u16, address: u16) -> Bench {
+    let mut bench = stops(4);
+    bench.then(0, 1, &[("CM", 3)]);
+    bench.then(1, 2, &[("CM", 4)]);
+    bench.then(2, 3, if writes { &[("CM", 0)] } else { &[] });
+    let [[i, j], [u, v]] = [if writes { inside } else { address }, address].map(u16::to_be_bytes);
+    bench.set(&[(I, i), (J, j), (U, u), (V, v)]);
+    bench
+}
+
+/// In 1,024 bytes, and fences that touch or end with it: at each edge of A's, and beside them. B does the same in the other
+/// fence, where most of it is refused.
+#[test]
+fn a_board_reads_and_writes_in_its_fence_alone() {
+    let here = folder("board_two_reach");
+    for (fences, inside, beside) in fences::EDGES {
+        let all = inside.iter().map(|at| (at, true)).chain(beside.iter().map(|at| (at, false)));
+        for ((&address, within), writes) in all.flat_map(|each| [(each, false), (each, true)]) {
+            let bench = reaching(writes, inside[0], address);
+            let starts = [bench.state; 2];
+            let pair = Pair { bench, reading: None, fences, order: "AB".to_owned(), starts, turns: 20 };
+            let text = takes_turns(&here, &pair, &View::LINES);
+            let line = match (within, writes) {
+                (true, _) => "STOPPED AT 003",
+                (false, false) => "REFUSED 11 AT 000: the main address is not in main storage, or not in the fence",
+                (false, true) => "REFUSED 11 AT 002: the main address is not in main storage, or not in the fence",
+            };
+            assert_eq!(own_lines(&text, "A").last().map(String::as_str), Some(line), "{address:03X} in {fences:?}");
+        }
+    }
+}
+
 // ---- FROM and TO
 
 const EDGES: [(u64, u64); 12] = [
@@ -1037,6 +1488,9 @@ fn from_over_to_is_told() {
     tells(&["ap", "38", "47", "FROM=2", "TO=1"], "FROM is over TO");
     tells(&["lamps", "sp", "38", "47", "TO=1", "FROM=2"], "FROM is over TO");
     tells(&["run", &deck, &main, "9", "FROM=1000000", "TO=999999"], "FROM is over TO");
+    for options in [["FROM=2", "A.I=1", "TO=1"], ["TO=0", "READING=C", "FROM=1"]] {
+        tells(&[&["two", &deck, &main, "9", "0:1", "1:2", "AB"], &options[..]].concat(), "FROM is over TO");
+    }
 }
 
 // ---- lamps and the walk
@@ -1237,7 +1691,10 @@ fn usage_is_shown_in_each_spelling() {
 fn usage_names_all_that_can_be_given() {
     let usage = board(&["help"]).text();
     let words: BTreeSet<&str> = usage.split(|c: char| !c.is_ascii_alphanumeric()).collect();
-    let others = ["add", "ap", "sp", "run", "lamps", "walk", "signed", "WX", "TRAP", "READING", "FROM", "TO"];
+    let others = [
+        "add", "ap", "sp", "run", "two", "lamps", "walk", "signed", "WX", "TRAP", "FENCE", "ORDER", "READING", "FROM",
+        "TO",
+    ];
     for word in others.iter().chain(&NAMES) {
         assert!(words.contains(word), "{word}");
     }
@@ -1259,6 +1716,19 @@ fn usage_tells_of_the_readings() {
     assert!(last[1].starts_with("FROM=n and TO=n show only those cycles"), "{last:?}");
 }
 
+/// A line of `two` names its arguments and options, and those below it tell what they are.
+#[test]
+fn usage_tells_of_two_boards() {
+    let usage = board(&["help"]).text();
+    let two = "board two DECK MAIN CYCLES FENCE FENCE ORDER [A.I=HH ..] [B.I=HH ..] [READING=B|C] [FROM=n] [TO=n]";
+    let lines: Vec<&str> = usage.lines().skip_while(|line| *line != two).collect();
+    let told: Vec<&&str> = lines.iter().skip(1).take_while(|line| line.starts_with("    ")).collect();
+    assert!(told.len() > 1, "{usage}");
+    for part in ["START:END", "ORDER", "A.I=HH", "B.WX=HHH"] {
+        assert!(told.iter().any(|line| line.contains(part)), "{part}: {told:?}");
+    }
+}
+
 // ---- what is told
 
 #[test]
@@ -1274,6 +1744,7 @@ fn a_missing_argument_is_told_by_its_number() {
         &["sp", "38-"],
         &["signed"],
         &["run", &deck, &main],
+        &["two", &deck, &main, "9", "0:1", "1:2"],
         &["lamps", "add", "38"],
         &["lamps", "ap", "38"],
         &["lamps", "sp", "38-"],
@@ -1294,12 +1765,13 @@ fn an_argument_too_many_is_told() {
 
 #[test]
 fn a_command_that_is_not_there_is_told() {
-    let line = "argument 1 is neither add, ap, sp, run, lamps, walk, signed nor help";
-    for name in ["frob", "", "ad", "adds", "a", "AP", "aps", "apsp", "s", "1", "-x", "FROM=1"] {
+    let line = "argument 1 is neither add, ap, sp, run, two, lamps, walk, signed nor help";
+    for name in ["frob", "", "ad", "adds", "a", "AP", "aps", "apsp", "s", "tw", "twos", "TWO", "2", "1", "-x", "FROM=1"]
+    {
         tells(&[name], line);
         tells(&[name, "38", "47"], line);
     }
-    for name in ["walk", "help", "lamps", "signed", "", "frob"] {
+    for name in ["walk", "help", "lamps", "signed", "two", "", "frob"] {
         tells(&["lamps", name], "argument 2 is neither add, ap, sp nor run");
         tells(&["lamps", name, "38", "47"], "argument 2 is neither add, ap, sp nor run");
     }
@@ -1530,6 +2002,201 @@ fn an_argument_has_its_true_number() {
     given.tells(&[&all[..], &traps, &traps].concat(), 122, "was given before");
 }
 
+impl Files {
+    /// The endless words and 1,024 bytes.
+    fn for_two(name: &str) -> Files {
+        let Bench { store, main, .. } = endless();
+        files(&folder(name), &store, &main)
+    }
+
+    /// What is told of two boards in these fences, with these options from argument 8 on.
+    fn tells_two(&self, [a, b]: [&str; 2], order: &str, options: &[&str], line: &str) {
+        tells(&[&["two", &self.deck, &self.main, "9", a, b, order], options].concat(), line);
+    }
+}
+
+/// One side, none, too many digits, another character, or too many sides.
+const NO_FENCE: [&str; 25] = [
+    "",
+    ":",
+    "100",
+    "100:",
+    ":102",
+    "100:102:",
+    ":100:102",
+    "100::102",
+    "100:102:104",
+    "000100:102",
+    "100:000102",
+    "100000:100001",
+    "10G:10H",
+    "100:10g",
+    "g:102",
+    "100-102",
+    "100,102",
+    "100 102",
+    "100 :102",
+    " 100:102",
+    "100:102 ",
+    "0x10:102",
+    "-1:102",
+    "100:+102",
+    "A.I=1",
+];
+
+#[test]
+fn a_fence_that_is_none_is_told() {
+    let given = Files::for_two("board_no_fence");
+    let line = "is not a fence START:END of two addresses of 1 to 5 hexadecimal digits";
+    let long = format!("100:{}", "1".repeat(90));
+    for wrong in NO_FENCE.into_iter().chain([long.as_str()]) {
+        given.tells_two([wrong, "200:202"], "AB", &[], &format!("argument 5 {line}"));
+        given.tells_two(["200:202", wrong], "AB", &[], &format!("argument 6 {line}"));
+        // the first that is wrong is told
+        given.tells_two([wrong, wrong], "x", &["x"], &format!("argument 5 {line}"));
+        given.tells_two(["0:0", wrong], "", &["FROM=2", "TO=1"], &format!("argument 6 {line}"));
+    }
+}
+
+#[test]
+fn an_order_that_is_none_is_told() {
+    let given = Files::for_two("board_no_order");
+    let [longer, long] = ["A".repeat(65), "AB".repeat(2000)];
+    for order in
+        ["", "C", "c", "X", "ABC", "CAB", "A B", " AB", "AB ", "A,B", "A-B", "1", "AB1", "A.I=1", &longer, &long]
+    {
+        let line = "argument 7 is not an order of 1 to 64 letters A and B";
+        given.tells_two(["0:1", "1:2"], order, &[], line);
+        given.tells_two(["0:0", "0:0"], order, &["x"], line);
+    }
+}
+
+/// In 1,024 bytes, either board's: empty, its start over its end, or beyond the last byte; and two with a byte in common.
+#[test]
+fn fences_that_are_refused_are_told() {
+    let given = Files::for_two("board_32");
+    for (one, other) in [
+        ("100:100", "200:300"),
+        ("0:0", "0:400"),
+        ("400:400", "0:400"),
+        ("101:100", "200:300"),
+        ("3FF:0", "200:300"),
+        ("3FF:401", "200:300"),
+        ("400:401", "200:300"),
+        ("300:10400", "200:300"),
+        ("10000:10001", "200:300"),
+        ("FFFFE:FFFFF", "200:300"),
+        ("100:201", "200:300"),
+        ("2FF:300", "200:300"),
+        ("200:201", "200:300"),
+        ("280:281", "200:300"),
+        ("200:300", "200:300"),
+        ("0:400", "200:300"),
+    ] {
+        for fences in [[one, other], [other, one]] {
+            given.tells_two(fences, "AB", &[], NO_FENCES);
+            given.tells_two(fences, "b", &["FROM=9", "A.WX=FFF"], NO_FENCES);
+        }
+        // what is wrong in an argument is told before it
+        given.tells_two([one, other], "AB", &["FROM=2", "TO=1"], "FROM is over TO");
+    }
+    for (one, other) in [("100:200", "200:300"), ("1FF:200", "200:201"), ("0:1", "1:400"), ("0:200", "200:400")] {
+        for [a, b] in [[one, other], [other, one]] {
+            let said = board(&["two", &given.deck, &given.main, "9", a, b, "AB", "FROM=9"]);
+            assert!(said.well() && said.out.ends_with(b"\nA SPENT AT 001\nB SPENT AT 000\n"), "{said:?}");
+        }
+    }
+}
+
+const NEITHER_OF_TWO: &str = "is neither a register of a board and its value, as A.I=HH or B.WX=HHH, \
+                              nor READING=B or READING=C, nor FROM=n nor TO=n";
+
+/// A register of no board or of another, none, or too much of it; a trap; and what belongs to no board.
+const NO_OPTION_OF_TWO: [&str; 46] = [
+    "",
+    "x",
+    "1",
+    "A",
+    "B",
+    "A.",
+    "A.I",
+    "A.I=",
+    "A.I=001",
+    "A.I=G",
+    "A.I=-1",
+    "A.I= 1",
+    "A.I=1 ",
+    " A.I=1",
+    "A.I==1",
+    "A.I:1",
+    "A:I=1",
+    "A=1",
+    "A.=1",
+    "AI=1",
+    "A I=1",
+    "A..I=1",
+    ".I=1",
+    "A.B.I=1",
+    "AB.I=1",
+    "C.I=1",
+    "0.I=1",
+    "A.Q=1",
+    "A.W=1",
+    "A.AC=1",
+    "A.WX=",
+    "A.WX=0000",
+    "A.WX=G",
+    "B.FWX=1",
+    "I=1",
+    "WX=1",
+    "TRAP=1:0",
+    "trap=5:001",
+    "A.TRAP=1:0",
+    "READING=X",
+    "READING",
+    "A.READING=C",
+    "FROM=",
+    "TO=-1",
+    "A.FROM=1",
+    "B.TO=1",
+];
+
+#[test]
+fn what_two_boards_do_not_know_is_told() {
+    let given = Files::for_two("board_two_neither");
+    let long = "A.I=".to_owned() + &"0".repeat(90);
+    for option in NO_OPTION_OF_TWO.into_iter().chain([long.as_str()]) {
+        given.tells_two(["0:1", "1:2"], "AB", &[option], &format!("argument 8 {NEITHER_OF_TWO}"));
+        given.tells_two(["0:0", "0:0"], "A", &["A.I=1", "TO=1", option, "y"], &format!("argument 10 {NEITHER_OF_TWO}"));
+    }
+}
+
+/// A register of A and the same of B are two. All that can be given is given, and one more.
+#[test]
+fn what_two_boards_are_given_twice_is_told() {
+    let given = Files::for_two("board_two_twice");
+    let before = |options: &[&str], number: usize| {
+        given.tells_two(["0:1", "1:2"], "AB", options, &format!("argument {number} was given before"));
+    };
+    let names: Vec<&str> = NAMES.into_iter().chain(["WX"]).collect();
+    for name in &names {
+        let [a, b, small] = [format!("A.{name}=1"), format!("B.{name}=1"), format!("b.{}=0", name.to_lowercase())];
+        before(&[&a, &a], 9);
+        before(&[&a, &b, &small], 10);
+    }
+    before(&["READING=B", "A.I=1", "reading=c"], 10);
+    before(&["FROM=1", "from=1"], 9);
+    before(&["TO=1", "B.I=1", "A.I=1", "TO=2", "x"], 11);
+    let mut all: Vec<String> =
+        BOTH.iter().flat_map(|letter| names.iter().map(move |name| format!("{letter}.{name}=1"))).collect();
+    all.extend(["READING=C", "FROM=1", "TO=1"].map(str::to_owned));
+    let all = strs(&all);
+    before(&[&all[..], &all].concat(), 8 + 31);
+    given.tells_two(["0:1", "1:2"], "AB", &[&all[..], &["x"]].concat(), &format!("argument 39 {NEITHER_OF_TWO}"));
+    let said = board(&[&["two", &given.deck, &given.main, "9", "0:1", "1:2", "AB"], &all[..]].concat());
+    assert!(said.well() && !said.out.is_empty(), "{said:?}");
+}
+
 #[test]
 fn a_number_of_cycles_that_is_none_is_told() {
     let Files { deck, main } = Files::endless("board_cycles");
@@ -1538,6 +2205,8 @@ fn a_number_of_cycles_that_is_none_is_told() {
     {
         tells(&["run", &deck, &main, cycles], "argument 4 is not a number of cycles up to 1000000");
         tells(&["lamps", "run", &deck, &main, cycles], "argument 5 is not a number of cycles up to 1000000");
+        let two = ["two", &deck, &main, cycles, "0:1", "1:2", "AB"];
+        tells(&two, "argument 4 is not a number of cycles up to 1000000");
     }
 }
 
@@ -1547,6 +2216,7 @@ fn told_of(deck: Option<&str>, main: Option<&str>, given: &Files, line: &str) {
     let number = if deck.is_some() { 2 } else { 3 };
     tells(&run, &format!("argument {number} {line}"));
     tells(&[&["lamps"], &run[..]].concat(), &format!("argument {} {line}", number + 1));
+    tells(&[&["two"], &run[1..], &["0:1", "1:2", "AB"]].concat(), &format!("argument {number} {line}"));
 }
 
 #[test]
@@ -1660,6 +2330,7 @@ fn a_read_that_fails_half_way_is_told() {
 #[test]
 fn a_write_that_fails_is_told_once() {
     let Files { deck, main } = Files::endless("board_full");
+    let Files { main: two, .. } = Files::for_two("board_full_two");
     for arguments in [
         &[][..],
         &["help"],
@@ -1676,6 +2347,9 @@ fn a_write_that_fails_is_told_once() {
         &["run", &deck, &main, "100000", "TO=0"],
         &["run", &deck, &main, "9", "TRAP=9:1"],
         &["run", &deck, &main, "9", "READING=C"],
+        &["two", &deck, &two, "9", "0:1", "1:2", "AB"],
+        &["two", &deck, &two, "0", "0:1", "1:2", "AB"],
+        &["two", &deck, &two, "100000", "0:1", "1:2", "AB"],
     ] {
         let said = said_to_full("board", arguments, &[]);
         assert_eq!((said.err.as_str(), said.status), ("board: the output was not written\n", Some(1)), "{arguments:?}");
@@ -1712,6 +2386,13 @@ fn a_refused_run_that_is_not_written_is_told_twice() {
         assert_eq!(told, BTreeSet::from([line, "board: the output was not written"]));
         assert_eq!((said.err.lines().count(), said.status), (2, Some(1)));
     }
+    let Files { deck, main } = Files::for_two("board_both_two");
+    let two = ["two", &deck, &main, "9", "0:1", "1:2", "AB", "A.WX=9", "B.WX=9"];
+    let said = said_to_full("board", &two, &[]);
+    let mut told: Vec<&str> = said.err.lines().collect();
+    told.sort_unstable();
+    let expected = ["board: board A was refused", "board: board B was refused", "board: the output was not written"];
+    assert_eq!((told, said.status), (expected.to_vec(), Some(1)));
 }
 
 /// What is wrong on the command line is told all the same where the output takes nothing.

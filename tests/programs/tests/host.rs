@@ -141,6 +141,54 @@ CL 4, read as compatibility: next word 001
     assert_eq!(two_readings(), text);
 }
 
+/// The record of a board whose two fields, a byte each, stand at the start of its fence and 16 further on.
+fn begun(core: &mut [u8], start: u16, fields: [u8; 2]) -> [u8; panel::STATE] {
+    let (mut record, at) = ([0; panel::STATE], usize::from(start));
+    [core[at], core[at + 0x10]] = fields;
+    assert_eq!(panel::start(start, start + 0x10, 1, 0, &mut record), 0);
+    record
+}
+
+/// A turn on the shipped words. They use no local storage.
+fn turn(core: &mut [u8], record: &mut [u8], own: [usize; 2], other: [usize; 2]) -> u64 {
+    let mut words = [0; 21];
+    assert_eq!(panel::shipped(&mut words), 21);
+    panel::turn(BASIC, &words, core, &mut [0; 256], record, own, other)
+}
+
+/// What it prints of two boards on one core.
+fn one_core() -> String {
+    let (core, a, b) = (&mut [0; 256], [0x10, 0x30], [0x80, 0xA0]);
+    let mut records = [begun(core, 0x10, [0x38, 0x47]), begun(core, 0x80, [0x99, 0x01])];
+    let mut text = format!("fences 10:30 and 80:A0: {}\n", panel::open(256, a, b));
+    let (mut turns, mut answers) = (0, [panel::RAN; 2]);
+    while answers.contains(&panel::RAN) {
+        answers = [turn(core, &mut records[0], a, b), turn(core, &mut records[1], b, a)];
+        turns += 1;
+    }
+    let ([of_a, of_b], sums) = (answers, [core[0x10], core[0x80]]);
+    text += &format!(
+        "after {turns} turns each, A: kind {of_a}, sum {:02X}; B: kind {of_b}, sum {:02X}\n",
+        sums[0], sums[1]
+    );
+    let (mut record, short) = (begun(core, 0x80, [0x99, 0x01]), [0x80, 0x90]);
+    let refused =
+        (0..99).map(|_| turn(core, &mut record, short, a)).find(|&answer| answer != panel::RAN).expect("an end");
+    text += &format!("B in 80:90: refused by {}, and its field is {:02X}\n", refused >> 8, core[0x80]);
+    text + &format!("fences 10:30 and 2F:A0: {}\n", panel::open(256, a, [0x2F, 0xA0]))
+}
+
+/// The same as a maker reads it.
+#[test]
+fn one_core_by_hand() {
+    let text = "fences 10:30 and 80:A0: 0
+after 19 turns each, A: kind 1, sum 85; B: kind 1, sum 00
+B in 80:90: refused by 11, and its field is 99
+fences 10:30 and 2F:A0: 32
+";
+    assert_eq!(one_core(), text);
+}
+
 fn shows_the_example(said: &Said) {
     let text = [
         cycle_of_p(),
@@ -152,6 +200,7 @@ fn shows_the_example(said: &Said) {
         with_signs(),
         broken_into(),
         two_readings(),
+        one_core(),
     ]
     .concat();
     assert_eq!((said.text(), said.status), (text, Some(0)), "{}", said.err);
@@ -240,6 +289,10 @@ int main() {
     std::printf(\"%u \", unsigned(panel_add_signed(main, 1, local, 1, 0, 0, 1) / 256));
     std::printf(\"%u \", unsigned(panel_sub_signed(main, 1, all, 256, 0, 0, 0) / 256));
     std::printf(\"%u \", panel_trap(4096, state, PANEL_STATE));
+    std::printf(\"%u \", panel_open(1, 0, 1, 1, 2));
+    uint32_t turn = panel_turn(PANEL_BASIC, words, 21, main, 1, all, 256, state, PANEL_STATE, 0, 1, 1, 2);
+    std::printf(\"%u \", turn / 256);
+    std::printf(\"%u \", unsigned(panel_add_decimal_in(main, 1, all, 256, 0, 0, 2, 0, 0, 1) / 256));
     std::printf(\"%u \", panel_start(0, 0, 1, 0, state, PANEL_STATE));
     std::printf(\"%u \", panel_shipped(words, 21));
     std::printf(\"%u \", panel_start_signed(0, 0, 1, 0, state, PANEL_STATE));
@@ -251,7 +304,7 @@ int main() {
 fn gpp_links_every_function() {
     let source = file(&folder("gpp_source"), "all.cpp", ALL.as_bytes());
     for said in linked("g++", &source) {
-        let text = "19 19 1 19 1 1 15 21 26 27 1 12 30 0 21 0 55\n";
+        let text = "19 19 1 19 1 1 15 21 26 27 1 12 30 32 32 13 0 21 0 55\n";
         assert_eq!((said.text().as_str(), said.status), (text, Some(0)), "{}", said.err);
     }
 }

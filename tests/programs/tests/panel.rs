@@ -4,16 +4,23 @@
 #[path = "../../second/tests/common/mod.rs"]
 mod common;
 
+use common::fences::{
+    self, board_at, draw_fences, draw_seated, fence, in_fence, in_the_gap, in_the_others, main_address, opens_by_bytes,
+    reading_at, refused, sizes_fit, writes, writing_at, Order, Session, Summed, EDGES, JUST_FIT, MAIN_BY, MAX,
+    NOT_WITHIN, OPENINGS, ORDERS, READS, RIGHT, SESSIONS, SUMS, TURNS_TAKEN, WITHIN, WRONG, WRONG_SIZES,
+};
 use common::{
-    any_word, chosen_numbers, each_occurs, lent, lent_to_go_on, one_of, Bench, Kind, Lent, LEAST, MOST, SEVEN,
+    any_word, bench_of, chosen_numbers, each_occurs, lent, lent_of, lent_to_go_on, one_of, Bench, Kind, Lent, LEAST,
+    MOST, PA_BIT, PC_BIT, PN_BIT, PS_BIT, SEVEN,
 };
 use programs::{folder, lesson, root, run, Said};
 use second::deck::{block_check, write_deck, BLOCK, LONGEST};
 use second::panel::{self, BAD_DIGIT, RAN, REFUSED, SPENT, STATE, STOPPED, SUMMED};
 use second::random::Random;
+use second::session::Fence;
 use second::shipped::{APSP, BAD_AT, DONE_AT, SHIPPED, SUMMED_AT};
 use second::state::LATCHES;
-use second::word::{build, index_of, named, pack, with_right_pk, Fields, GIVEN, LAYOUT};
+use second::word::{build, index_of, named, pack, split, with_right_pk, Fields, CA, CK, CL, CM, CU, GIVEN, LAYOUT};
 use std::collections::BTreeSet;
 use std::path::PathBuf;
 use std::process::Command;
@@ -68,10 +75,11 @@ impl Program {
     }
 }
 
-/// What is done with two fields: added with a carry, or added or subtracted with signs.
-#[derive(Clone, Copy, Debug, PartialEq, Eq, PartialOrd, Ord)]
+/// What is done with two fields: added with a carry, in a fence or without, or added or subtracted with signs.
+#[derive(Clone, Copy, Debug)]
 enum Operation {
     Add { carry: u8 },
+    AddIn { carry: u8, within: Fence },
     AddSigned,
     SubSigned,
 }
@@ -80,6 +88,9 @@ impl Operation {
     fn make(self, main: &mut [u8], local: &mut [u8], first: usize, second: usize, length: usize) -> u64 {
         match self {
             Operation::Add { carry } => panel::add(main, local, first, second, length, carry),
+            Operation::AddIn { carry, within } => {
+                panel::add_in(main, local, first, second, length, carry, ends_of(&within))
+            }
             Operation::AddSigned => panel::add_signed(main, local, first, second, length),
             Operation::SubSigned => panel::sub_signed(main, local, first, second, length),
         }
@@ -102,6 +113,13 @@ enum Call {
     ReadSigned { field: Vec<u8>, room: Vec<i64> },
     WriteSigned { number: i64, field: Vec<u8> },
     Trap { address: u32, state: Vec<u8> },
+    Open { main_len: usize, fences: [Fence; 2] },
+    Turn { reading: u8, store: Vec<u64>, main: Vec<u8>, local: Vec<u8>, state: Vec<u8>, fences: [Fence; 2] },
+}
+
+/// As the header has them, one after the other.
+fn ends_of(fence: &Fence) -> [usize; 2] {
+    [fence.start, fence.end]
 }
 
 /// The same bits.
@@ -121,6 +139,10 @@ impl Message {
 
     fn numbers(self, numbers: impl IntoIterator<Item = u64>) -> Message {
         numbers.into_iter().fold(self, Message::number)
+    }
+
+    fn fences(self, fences: &[Fence]) -> Message {
+        self.numbers(fences.iter().flat_map(ends_of).map(|end| end as u64))
     }
 
     fn elements(mut self, bytes: &[u8]) -> Message {
@@ -159,13 +181,15 @@ impl Call {
                 lent.number((*budget).into())
             }
             Call::Sum { operation, main, local, first, second, length } => {
-                let (number, carry) = match operation {
-                    Operation::Add { carry } => (4, Some(*carry)),
-                    Operation::AddSigned => (14, None),
-                    Operation::SubSigned => (15, None),
+                let (number, carry, within) = match operation {
+                    Operation::Add { carry } => (4, Some(*carry), None),
+                    Operation::AddIn { carry, within } => (19, Some(*carry), Some(*within)),
+                    Operation::AddSigned => (14, None, None),
+                    Operation::SubSigned => (15, None, None),
                 };
                 let places = [first, second, length].map(|place| *place as u64);
-                called(number).bytes(main).bytes(local).numbers(places).numbers(carry.map(u64::from))
+                let lent = called(number).bytes(main).bytes(local).numbers(places);
+                lent.numbers(carry.map(u64::from)).fences(within.as_slice())
             }
             Call::ReadDeck { deck, words } => called(5).bytes(deck).words(words),
             Call::WriteDeck { words, deck } => called(6).words(words).bytes(deck),
@@ -183,6 +207,11 @@ impl Call {
             Call::ReadSigned { field, room } => called(10).bytes(field).words(&unsigned(room)),
             Call::WriteSigned { number, field } => called(11).number(*number as u64).bytes(field),
             Call::Trap { address, state } => called(16).number((*address).into()).bytes(state),
+            Call::Open { main_len, fences } => called(17).number(*main_len as u64).fences(fences),
+            Call::Turn { reading, store, main, local, state, fences } => {
+                let lent = called(18).number((*reading).into()).words(store).bytes(main).bytes(local).bytes(state);
+                lent.fences(fences)
+            }
         }
         .0
     }
@@ -209,6 +238,10 @@ impl Call {
             Call::ReadSigned { field, room } => panel::read_signed(field, room),
             Call::WriteSigned { number, field } => panel::write_signed(*number, field),
             Call::Trap { address, state } => panel::trap(*address, state),
+            Call::Open { main_len, fences: [a, b] } => panel::open(*main_len, ends_of(a), ends_of(b)),
+            Call::Turn { reading, store, main, local, state, fences: [own, other] } => {
+                panel::turn(*reading, store, main, local, state, ends_of(own), ends_of(other))
+            }
         }
     }
 
@@ -218,7 +251,9 @@ impl Call {
         match self {
             Call::TakeApart { fields, .. } => message.elements(fields),
             Call::Pack { fields, word, .. } => message.elements(fields).wide(word),
-            Call::Cycle { store, main, local, state, .. } | Call::Run { store, main, local, state, .. } => {
+            Call::Cycle { store, main, local, state, .. }
+            | Call::Run { store, main, local, state, .. }
+            | Call::Turn { store, main, local, state, .. } => {
                 message.wide(store).elements(main).elements(local).elements(state)
             }
             Call::Sum { main, local, .. } => message.elements(main).elements(local),
@@ -229,6 +264,7 @@ impl Call {
             Call::Shipped { words, .. } => message.wide(words),
             Call::ReadSigned { field, room } => message.elements(field).wide(&unsigned(room)),
             Call::WriteSigned { field, .. } => message.elements(field),
+            Call::Open { .. } => message,
         }
         .0
     }
@@ -237,8 +273,8 @@ impl Call {
     fn changes_nothing(&self, answer: u64) -> bool {
         match self {
             Call::TakeApart { .. } | Call::Pack { .. } | Call::NextSum { .. } | Call::Start { .. } => answer != 0,
-            Call::ReadSigned { .. } | Call::WriteSigned { .. } | Call::Trap { .. } => answer != 0,
-            Call::Cycle { .. } => answer & 0xFF != 0,
+            Call::ReadSigned { .. } | Call::WriteSigned { .. } | Call::Trap { .. } | Call::Open { .. } => answer != 0,
+            Call::Cycle { .. } | Call::Turn { .. } => answer & 0xFF != 0,
             Call::Run { .. } => answer >> 32 == 0,
             Call::Sum { .. } => answer & 0xFF != SUMMED,
             Call::ReadDeck { .. } | Call::WriteDeck { .. } | Call::Shipped { .. } => answer >> 16 != 0,
@@ -367,20 +403,25 @@ fn run_of(reading: u8, case: &Lent, budget: u32) -> Call {
     Call::Run { reading, store, main, local, state, budget }
 }
 
-/// What a cycle or a run was lent.
+/// The first of the fences is the board's own, and the second the other's.
+fn turn_of(reading: u8, case: &Lent, fences: [Fence; 2]) -> Call {
+    let Lent { store, main, local, state } = case.clone();
+    Call::Turn { reading, store, main, local, state, fences }
+}
+
+/// What a cycle, a turn or a run was lent.
 fn lent_to(call: Call) -> Lent {
     match call {
-        Call::Cycle { store, main, local, state, .. } | Call::Run { store, main, local, state, .. } => {
-            Lent { store, main, local, state }
-        }
+        Call::Cycle { store, main, local, state, .. }
+        | Call::Run { store, main, local, state, .. }
+        | Call::Turn { store, main, local, state, .. } => Lent { store, main, local, state },
         other => panic!("no state is lent to {other:?}"),
     }
 }
 
 /// A run that no word ends.
 fn endless() -> Lent {
-    let Bench { store, main, local, .. } = Bench::endless();
-    Lent { store, main, local, state: vec![0; STATE] }
+    lent_of(Bench::endless())
 }
 
 /// One word in so many gets one of these codes.
@@ -468,13 +509,13 @@ fn runs() {
 /// The record that a call is lent.
 fn record_lent(call: &Call) -> &[u8] {
     match call {
-        Call::Cycle { state, .. } | Call::Run { state, .. } => state,
+        Call::Cycle { state, .. } | Call::Run { state, .. } | Call::Turn { state, .. } => state,
         Call::Start { state, .. } | Call::Trap { state, .. } => state,
         other => panic!("no state is lent to {other:?}"),
     }
 }
 
-/// A cycle, a run, a trap and a start write the record, and leave what is lent past it.
+/// A cycle, a turn, a run, a trap and a start write the record, and leave what is lent past it.
 #[test]
 fn bytes_past_the_record_are_left() {
     for (past, reading) in [(1, BASIC), (2, COMPATIBILITY), (40, 255)] {
@@ -485,7 +526,8 @@ fn bytes_past_the_record_are_left() {
             Call::Start { program, first: 1, second: 2, length: 3, on: 1, state }
         });
         let trap = Call::Trap { address: 1, state: case.state.clone() };
-        for (_, call) in made(&[&[cycle_of(reading, &case), run_of(reading, &case, 9), trap], &starts[..]].concat()) {
+        let steps = [cycle_of(reading, &case), turn_of(reading, &case, RIGHT), run_of(reading, &case, 9), trap];
+        for (_, call) in made(&[&steps, &starts[..]].concat()) {
             let (written, left) = record_lent(&call).split_at(STATE);
             assert_ne!(written, &case.state[..STATE], "{call:?}");
             assert_eq!(left, vec![0xEE; past], "{call:?}");
@@ -560,7 +602,7 @@ fn are_a_run(case: &Pressed, answer: u64, left: &Lent) {
 
 /// Refused by this number.
 fn is_refused(answer: u64, number: u64) -> bool {
-    answer & 0xFFFF == REFUSED + 256 * number
+    answer & 0xFFFF == refused(number)
 }
 
 /// A latch byte of the record is neither 0 nor 1.
@@ -657,13 +699,16 @@ const NOT_MODELLED: [[&[u8]; 3]; 2] = [[&[4, 5], &[3, 4, 12, 15], &[5, 14, 15]],
 
 /// Refused by 10, with this field.
 fn no_code(field: u64) -> u64 {
-    REFUSED + 256 * 10 + 65536 * field
+    refused(10) + 65536 * field
 }
 
-/// A word and nothing else, with this record.
+/// A word and nothing else, with this record. There is a byte for each of two fences.
 fn alone(word: u64, state: &[u8]) -> Lent {
-    Lent { store: vec![word], main: vec![0], local: vec![0; 256], state: state.to_vec() }
+    Lent { store: vec![word], main: vec![0; 2], local: vec![0; 256], state: state.to_vec() }
 }
+
+/// The fences of one byte each.
+const SMALLEST: [Fence; 2] = [fence(0, 1), fence(1, 2)];
 
 /// What a run of one cycle answers where the cycle answers this.
 fn run_of_one(answer: u64) -> u64 {
@@ -746,7 +791,7 @@ fn records(random: &mut Random) -> Vec<Vec<u8>> {
     records
 }
 
-/// By one cycle, and by a run of one: each of the seven codes tests or turns what request 7 says, and nothing else.
+/// By one cycle, by a turn, and by a run of one: each of the seven codes tests or turns what request 7 says, and nothing else.
 #[test]
 fn the_seven_codes_by_hand() {
     let records = records(&mut Random::new(181));
@@ -756,11 +801,14 @@ fn the_seven_codes_by_hand() {
             let meaning = meanings[usize::from(reading != BASIC)];
             let cases: Vec<Lent> = records.iter().map(|record| alone(word, record)).collect();
             let cycles: Vec<Call> = cases.iter().map(|case| cycle_of(reading, case)).collect();
+            let turns: Vec<Call> = cases.iter().map(|case| turn_of(reading, case, SMALLEST)).collect();
             let runs = run_each(cases.iter().map(|case| (reading, case, 1)));
-            for ((record, (answer, after)), (run, left)) in records.iter().zip(made(&cycles)).zip(runs) {
+            let cycled = made(&cycles).into_iter().zip(made(&turns));
+            for ((record, ((answer, after), (turn, turned))), (run, left)) in records.iter().zip(cycled).zip(runs) {
                 let what = format!("{name} {code} under {reading} from {record:02X?}");
                 let state = record_lent(&after);
                 assert_eq!((answer, state[14], state[8]), by_hand(name, field, meaning, record), "{what}");
+                assert_eq!((turn, record_lent(&turned)), (answer, state), "{what}");
                 assert_eq!((run, &left.state[..]), (run_of_one(answer), state), "{what}");
             }
         }
@@ -775,11 +823,15 @@ fn every_value_but_0_is_compatibility() {
     for (cl, basic) in [(6, RAN), (4, no_code(5))] {
         let case = alone(build(0, &[("CL", cl), ("CM", 1), ("CA", 4)]).expect("a word"), &record);
         let cycles: Vec<Call> = (0..=255).map(|reading| cycle_of(reading, &case)).collect();
+        let turns: Vec<Call> = (0..=255).map(|reading| turn_of(reading, &case, SMALLEST)).collect();
         let runs: Vec<Call> = (0..=255).map(|reading| run_of(reading, &case, 1)).collect();
-        for (reading, ((answer, after), (run, ran))) in made(&cycles).into_iter().zip(made(&runs)).enumerate() {
+        let cycled = made(&cycles).into_iter().zip(made(&turns));
+        for (reading, (both, (run, ran))) in cycled.zip(made(&runs)).enumerate() {
             let expected = if reading == 0 { (basic, 0) } else { (RAN, 1) };
-            assert_eq!((answer, record_lent(&after)[14]), expected, "CL {cl} under {reading}");
-            assert_eq!((run, record_lent(&ran)[14]), (run_of_one(answer), expected.1), "CL {cl} under {reading}");
+            for (answer, after) in [both.0, both.1] {
+                assert_eq!((answer, record_lent(&after)[14]), expected, "CL {cl} under {reading}");
+            }
+            assert_eq!((run, record_lent(&ran)[14]), (run_of_one(expected.0), expected.1), "CL {cl} under {reading}");
         }
     }
 }
@@ -900,7 +952,7 @@ fn a_reading_changes_no_other_refusal_and_no_stop() {
         }
         parted += usize::from(basic != compatibility || left != other);
     }
-    let refused = [1, 2, 3, 4, 5, 6, 7, 8, 9, 19, 22].map(|number| REFUSED + 256 * number);
+    let refused = [1, 2, 3, 4, 5, 6, 7, 8, 9, 19, 22].map(refused);
     assert_eq!(ends, refused.into_iter().chain([STOPPED]).collect());
     assert!(parted > 300, "{parted} runs part");
 }
@@ -948,7 +1000,7 @@ fn draw_pair(random: &mut Random, operation: Operation, length: usize) -> [Vec<u
     let (first, other) = (draw_size(random, length), draw_size(random, length));
     let second = if random.below(6) == 0 { first.clone() } else { other };
     match operation {
-        Operation::Add { .. } => [first, second],
+        Operation::Add { .. } | Operation::AddIn { .. } => [first, second],
         _ => [first, second].map(|size| with_sign(size, draw_sign(random))),
     }
 }
@@ -992,9 +1044,9 @@ fn draw_sum(random: &mut Random, operation: Operation) -> Call {
 }
 
 /// Drawn sums agree. Every length ends with and without a carry or overflow, and by a bad digit; each refusal is seen.
-fn sums_agree(calls: &[Call]) {
+fn sums_agree(calls: &[Call], numbers: &[u64]) {
     let answers = agree(calls);
-    assert_eq!(refusals(&answers, 8), BTreeSet::from([1, 12, 13, 14]));
+    assert_eq!(refusals(&answers, 8), BTreeSet::from_iter(numbers.iter().copied()));
     let mut seen = BTreeSet::new();
     for (call, answer) in calls.iter().zip(answers) {
         let Call::Sum { length, .. } = call else { unreachable!() };
@@ -1019,14 +1071,14 @@ fn decimal_adds() {
         let operation = draw_add(random);
         draw_sum(random, operation)
     };
-    sums_agree(&(0..8000).map(draw).collect::<Vec<Call>>());
+    sums_agree(&(0..8000).map(draw).collect::<Vec<Call>>(), &[1, 12, 13, 14]);
 }
 
 #[test]
 fn signed_adds_and_subtracts() {
     let random = &mut Random::new(157);
     for operation in [Operation::AddSigned, Operation::SubSigned] {
-        sums_agree(&(0..8000).map(|_| draw_sum(random, operation)).collect::<Vec<Call>>());
+        sums_agree(&(0..8000).map(|_| draw_sum(random, operation)).collect::<Vec<Call>>(), &[1, 12, 13, 14]);
     }
 }
 
@@ -1919,4 +1971,1012 @@ fn a_return_beside_a_module_number_is_refused_by_8() {
         expected.extend([answer; 2]);
     }
     assert_eq!(agree(&calls), expected);
+}
+
+/// The fences in either order.
+fn either_way(main_len: usize, [a, b]: [Fence; 2]) -> [Call; 2] {
+    [[a, b], [b, a]].map(|fences| Call::Open { main_len, fences })
+}
+
+fn opening(accepted: bool) -> u64 {
+    if accepted {
+        0
+    } else {
+        32
+    }
+}
+
+#[test]
+fn openings_by_hand() {
+    let calls: Vec<Call> = OPENINGS.into_iter().flat_map(|(main_len, a, b, _)| either_way(main_len, [a, b])).collect();
+    let expected: Vec<u64> = OPENINGS.into_iter().flat_map(|(.., accepted)| [opening(accepted); 2]).collect();
+    assert_eq!(agree(&calls), expected);
+}
+
+/// Every start and end up to two past the end of main storage, by counting bytes.
+#[test]
+fn every_small_opening_is_by_its_bytes() {
+    let (mut calls, mut expected) = (Vec::new(), Vec::new());
+    for main_len in 0..=5 {
+        let edges = 0..=main_len + 2;
+        let all: Vec<Fence> = edges.clone().flat_map(|start| edges.clone().map(move |end| fence(start, end))).collect();
+        for fences in all.iter().flat_map(|a| all.iter().map(move |b| [*a, *b])) {
+            calls.push(Call::Open { main_len, fences });
+            expected.push(opening(opens_by_bytes(main_len, fences)));
+        }
+    }
+    assert_eq!(agree(&calls), expected);
+    assert_eq!(expected.iter().filter(|answer| **answer == 0).count(), 112);
+}
+
+/// An opening that was asked for, and what was answered.
+struct Opened {
+    main_len: usize,
+    fences: [Fence; 2],
+    answer: u64,
+}
+
+impl Opened {
+    /// Whether a fence is neither empty nor too long.
+    fn stands(&self, which: usize) -> bool {
+        let Fence { start, end } = self.fences[which];
+        start < end && end <= self.main_len
+    }
+
+    /// Refused for one of the fences alone.
+    fn only(&self, is: fn(Fence, usize) -> bool) -> [bool; 2] {
+        [0, 1].map(|which| self.answer == 32 && self.stands(1 - which) && is(self.fences[which], self.main_len))
+    }
+
+    /// Both stand, and the first is below and ends so many bytes past the second's start.
+    fn shares(&self, bytes: usize, [a, b]: [Fence; 2]) -> bool {
+        self.stands(0) && self.stands(1) && a.start < b.start && a.end == b.start + bytes
+    }
+
+    fn reversed(&self) -> [Fence; 2] {
+        [self.fences[1], self.fences[0]]
+    }
+}
+
+/// Near 0 or an end of main storage, beside another edge, or as far as numbers go.
+fn draw_edge(random: &mut Random, main_len: usize, other: usize) -> usize {
+    let by = random.below(3) as usize;
+    let within = random.below(main_len.max(1) as u64) as usize;
+    let edges = [by, main_len - main_len.min(by), main_len + by, within, within, other.saturating_add(by), other];
+    match random.below(12) {
+        0 => MAX - by,
+        _ => one_of(random, &edges),
+    }
+}
+
+/// Drawn by edges, or such that most are right.
+fn draw_opening(random: &mut Random) -> Call {
+    let main_len = one_of(random, &[0, 1, 2, 3, 100, 256, 65_535, 65_536, 65_537, 70_000, 1 << 32]);
+    let fences = match random.below(2) {
+        0 => draw_fences(random, main_len, 2),
+        _ => {
+            let mut last = random.below(main_len.max(1) as u64) as usize;
+            let mut edge = || {
+                last = draw_edge(random, main_len, last);
+                last
+            };
+            [0; 2].map(|_| fence(edge(), edge()))
+        }
+    };
+    Call::Open { main_len, fences }
+}
+
+const OPENED: [Kind<Opened>; 22] = [
+    ("apart, the first below", |case| case.answer == 0 && case.fences[0].end < case.fences[1].start),
+    ("apart, the second below", |case| case.answer == 0 && case.fences[1].end < case.fences[0].start),
+    ("they touch, the first below", |case| case.answer == 0 && case.shares(0, case.fences)),
+    ("they touch, the second below", |case| case.answer == 0 && case.shares(0, case.reversed())),
+    ("from 0", |case| case.answer == 0 && case.fences.iter().any(|fence| fence.start == 0)),
+    ("to the end", |case| case.answer == 0 && case.fences.iter().any(|fence| fence.end == case.main_len)),
+    ("in more than a board has", |case| case.answer == 0 && case.main_len > 65_536),
+    ("one byte", |case| case.answer == 0 && case.fences.iter().any(|fence| fence.end - fence.start == 1)),
+    ("one byte shared, the first below", |case| case.answer == 32 && case.shares(1, case.fences)),
+    ("one byte shared, the second below", |case| case.answer == 32 && case.shares(1, case.reversed())),
+    ("the same", |case| case.answer == 32 && case.stands(0) && case.fences[0] == case.fences[1]),
+    ("the first empty", |case| case.only(|fence, _| fence.start == fence.end)[0]),
+    ("the second empty", |case| case.only(|fence, _| fence.start == fence.end)[1]),
+    ("the first's end before its start", |case| case.only(|fence, _| fence.start > fence.end)[0]),
+    ("the second's end before its start", |case| case.only(|fence, _| fence.start > fence.end)[1]),
+    ("the first one past the end", |case| case.only(|fence, main_len| fence.end == main_len + 1)[0]),
+    ("the second one past the end", |case| case.only(|fence, main_len| fence.end == main_len + 1)[1]),
+    ("the first as far as numbers go", |case| case.only(|fence, _| fence.end == MAX)[0]),
+    ("the second as far as numbers go", |case| case.only(|fence, _| fence.end == MAX)[1]),
+    ("a start as far as numbers go", |case| case.only(|fence, _| fence.start == MAX).contains(&true)),
+    ("no main storage", |case| case.answer == 32 && case.main_len == 0),
+    ("one byte of main storage", |case| case.answer == 32 && case.main_len == 1),
+];
+
+#[test]
+fn openings() {
+    let random = &mut Random::new(197);
+    let calls: Vec<Call> = (0..20_000).map(|_| draw_opening(random)).collect();
+    let opened = |(call, answer): (Call, u64)| {
+        let Call::Open { main_len, fences } = call else { unreachable!() };
+        Opened { main_len, fences, answer }
+    };
+    let answers = agree(&calls);
+    assert_eq!(BTreeSet::from_iter(answers.clone()), BTreeSet::from([0, 32]));
+    each_occurs(&OPENED, &calls.into_iter().zip(answers).map(opened).collect::<Vec<_>>());
+}
+
+/// A board in 1,024 bytes with one word, from a record in which all but WX and the storage kind is EE: main storage is selected
+/// outside every fence, and the latches are on.
+fn with_word(word: u64) -> Lent {
+    let mut state = vec![0xEE; STATE];
+    state[13..15].fill(0);
+    state[19] = 0;
+    Lent { store: vec![word], main: vec![0x5A; 1024], local: vec![0x3C; 256], state }
+}
+
+/// What a cycle checks, from 2 on: each answer, and a case that all later checks would answer too, down to a Write outside
+/// every fence. The last one runs.
+fn cycle_checks() -> Vec<(u64, Lent)> {
+    let writes = [("CM", 0), ("CA", 3)];
+    let not_modelled = [&writes[..], &[("CD", 1), ("CS", 14)]].concat();
+    let stops = [&not_modelled[..], &[("CF", 4)]].concat();
+    let worst = module_word(&stops, 0, 2, true);
+    let all_parity = worst ^ PN_BIT ^ PA_BIT ^ PC_BIT;
+    let mut outside = with_word(all_parity ^ 1 << 55);
+    outside.state[14] = 1;
+    let mut inside = with_word(module_word(&writes, 0, 0, false));
+    inside.state[11..13].copy_from_slice(&[0, 9]);
+    let words = [
+        (refused(3), all_parity ^ 1 << 55),
+        (refused(4), all_parity),
+        // PS covers PA.
+        (refused(5), worst ^ PA_BIT ^ PC_BIT),
+        (refused(6), worst ^ PS_BIT ^ PC_BIT),
+        (refused(7), worst ^ PC_BIT),
+        (refused(8), worst),
+        (refused(9), module_word(&stops, 0, 0, true)),
+        (STOPPED, module_word(&stops, 0, 0, false)),
+        (no_code(15), module_word(&not_modelled, 0, 0, false)),
+        (refused(11), module_word(&writes, 0, 0, false)),
+    ];
+    let cases = words.map(|(answer, word)| (answer, with_word(word)));
+    [(refused(2), outside)].into_iter().chain(cases).chain([(RAN, inside)]).collect()
+}
+
+/// The case with each size wrong in each way.
+fn wrong_sizes(case: &Lent) -> [Lent; 6] {
+    WRONG_SIZES.map(|[words, main, local]| {
+        let mut case = case.clone();
+        case.store.resize(words, case.store[0]);
+        case.main.resize(main, 0x5A);
+        case.local.resize(local, 0x5A);
+        case
+    })
+}
+
+/// The case with less room for its record: none, and one byte too few.
+fn short_records(case: &Lent) -> [Lent; 2] {
+    [0, STATE - 1].map(|room| {
+        let mut case = case.clone();
+        case.state.truncate(room);
+        case
+    })
+}
+
+/// Of a case that a cycle answers so: what a turn answers where all else is right, and where fences, sizes and the record's
+/// room are wrong.
+fn turns_of_check(answer: u64, case: &Lent) -> Vec<(u64, Lent, [Fence; 2])> {
+    let every = || [RIGHT].into_iter().chain(WRONG);
+    let mut turns = vec![(answer, case.clone(), RIGHT)];
+    turns.extend(WRONG.map(|fences| (refused(32), case.clone(), fences)));
+    for sized in wrong_sizes(case) {
+        turns.extend(short_records(&sized).map(|short| (refused(19), short, RIGHT)));
+        turns.extend(every().map(|fences| (refused(1), sized.clone(), fences)));
+    }
+    for short in short_records(case).into_iter().chain(short_records(&wrong_sizes(case)[4])) {
+        turns.extend(every().map(|fences| (refused(19), short.clone(), fences)));
+    }
+    turns
+}
+
+/// 19, then 1, then 32, then what a cycle checks: each is given though all later ones would be too.
+#[test]
+fn a_turn_checks_in_order() {
+    let random = &mut Random::new(199);
+    let mut answers = BTreeSet::new();
+    for (answer, case) in cycle_checks() {
+        let turns = turns_of_check(answer, &case);
+        let calls: Vec<Call> =
+            turns.iter().map(|(_, case, fences)| turn_of(one_of(random, &READINGS), case, *fences)).collect();
+        let expected: Vec<u64> = turns.iter().map(|(answer, ..)| *answer).collect();
+        assert_eq!(agree(&calls), expected);
+        answers.extend(expected);
+    }
+    let refused = [1, 2, 3, 4, 5, 6, 7, 8, 9, 11, 19, 32].map(refused);
+    assert_eq!(answers, refused.into_iter().chain([RAN, STOPPED, no_code(15)]).collect());
+}
+
+/// A turn at an address, its answer and what it leaves, worked by hand.
+struct Worked {
+    case: Lent,
+    fences: [Fence; 2],
+    answer: u64,
+    left: Lent,
+}
+
+/// Where it is refused by 11, nothing changes.
+fn worked(case: Lent, fences: [Fence; 2], ran: Option<Lent>) -> Worked {
+    let answer = if ran.is_some() { RAN } else { refused(11) };
+    Worked { left: ran.unwrap_or_else(|| case.clone()), case, fences, answer }
+}
+
+/// Every turn answers and leaves what was worked out. Some of each are refused, where they may be.
+fn all_work(random: &mut Random, turns: &[Worked], may_be_refused: bool) {
+    let calls: Vec<Call> =
+        turns.iter().map(|turn| turn_of(one_of(random, &[0, 1, 255]), &turn.case, turn.fences)).collect();
+    for (Worked { case, fences, answer, left }, (got, after)) in turns.iter().zip(made(&calls)) {
+        assert_eq!((got, &lent_to(after)), (*answer, left), "{fences:?} from {:02X?}", case.state);
+    }
+    assert_eq!(turns.iter().any(|turn| turn.answer == refused(11)), may_be_refused);
+    assert!(turns.iter().any(|turn| turn.answer == RAN));
+}
+
+/// The addresses of a pair of fences, and whether they are in the first of the two.
+fn at_edges(inside: &'static [u16], outside: &'static [u16]) -> impl Iterator<Item = (u16, bool)> {
+    inside.iter().map(|at| (*at, true)).chain(outside.iter().map(|at| (*at, false)))
+}
+
+/// Off and on, of which any value but 0 is on.
+const ALLOWED: [u8; 4] = [0, 1, 2, 255];
+
+/// What a cycle of a word that does nothing else makes of the record, at word 0 and with 33 arriving: R, the latches of a sum
+/// that is 0, and nothing arriving.
+fn passed(case: &Lent, r: u8) -> Lent {
+    let mut left = case.clone();
+    left.state[7] = r;
+    left.state[15..18].copy_from_slice(&[0, 0, 1]);
+    left.state[20..24].fill(0);
+    left
+}
+
+/// A turn with a read of main storage, with the latch in a value: a fetch where it is off, and that in the fence alone.
+fn fetch_at(bench: Bench, fences: [Fence; 2], (at, inside): (u16, bool), allowed: u8) -> Worked {
+    let mut case = lent_of(bench);
+    [case.state[18], case.state[20]] = [allowed, 200];
+    let mut left = passed(&case, 0x33);
+    left.state[11..13].copy_from_slice(&at.to_be_bytes());
+    left.state[18..20].copy_from_slice(&[1, 0]);
+    if allowed == 0 && inside {
+        left.state[20..22].copy_from_slice(&[1, case.main[usize::from(at)]]);
+    }
+    worked(case, fences, (allowed != 0 || inside).then_some(left))
+}
+
+#[test]
+fn a_turn_fetches_in_its_own_fence_alone() {
+    let random = &mut Random::new(211);
+    for (fences, inside, outside) in EDGES {
+        let mut turns = Vec::new();
+        for ((cm, high, low), by) in READS.into_iter().flat_map(|read| MAIN_BY.map(|by| (read, by))) {
+            for (at, allowed) in at_edges(inside, outside).flat_map(|at| ALLOWED.map(|allowed| (at, allowed))) {
+                turns.push(fetch_at(reading_at(cm, by, high, low, at.0), fences, at, allowed));
+            }
+        }
+        all_work(random, &turns, true);
+    }
+}
+
+/// A turn with a Write of the arriving 33 or a Store of 44 at an address, where the latch is on, and that in the fence alone.
+fn write_at((cm, cu): (u8, u8), fences: [Fence; 2], (at, inside): (u16, bool), allowed: u8) -> Worked {
+    let mut case = lent_of(writing_at(cm, cu, at, false));
+    [case.state[18], case.state[20]] = [allowed, 200];
+    let byte = if cm == 0 { 0x33 } else { 0x44 };
+    let mut left = passed(&case, byte);
+    left.state[18] = 0;
+    if allowed != 0 && inside {
+        left.main[usize::from(at)] = byte;
+    }
+    worked(case, fences, (allowed == 0 || inside).then_some(left))
+}
+
+#[test]
+fn a_turn_writes_in_its_own_fence_alone() {
+    let random = &mut Random::new(223);
+    for (fences, inside, outside) in EDGES {
+        let mut turns = Vec::new();
+        for (write, at) in writes().flat_map(|write| at_edges(inside, outside).map(move |at| (write, at))) {
+            turns.extend(ALLOWED.map(|allowed| write_at(write, fences, at, allowed)));
+        }
+        all_work(random, &turns, true);
+    }
+}
+
+/// A turn with a read of local storage, and one with a write to it, at any N.
+fn local_at(fences: [Fence; 2], n: u8) -> Vec<Worked> {
+    let at = 0x9900 + u16::from(n);
+    let mut turns = Vec::new();
+    for ((cm, high, low), by) in READS.into_iter().flat_map(|read| [(1, 0xFF), (3, 0x3F), (3, 0)].map(|by| (read, by)))
+    {
+        let case = lent_of(reading_at(cm, by, high, low, at));
+        let mut left = passed(&case, 0x33);
+        // "For 5 with local storage only N takes T and M stays."
+        left.state[11..13].copy_from_slice(&[if cm == 5 { case.state[11] } else { 0x99 }, n]);
+        left.state[18..22].copy_from_slice(&[1, 1, 1, case.local[usize::from(n)]]);
+        turns.push(worked(case, fences, Some(left)));
+    }
+    for (cm, cu) in writes() {
+        let mut case = lent_of(writing_at(cm, cu, at, true));
+        case.state[19] = 200;
+        let byte = if cm == 0 { 0x33 } else { 0x44 };
+        let mut left = passed(&case, byte);
+        left.state[18..20].copy_from_slice(&[0, 1]);
+        left.local[usize::from(n)] = byte;
+        turns.push(worked(case, fences, Some(left)));
+    }
+    turns
+}
+
+/// No fence has a byte at 99xx.
+#[test]
+fn a_turn_has_all_of_local_storage() {
+    let random = &mut Random::new(227);
+    for (fences, ..) in EDGES {
+        let turns: Vec<Worked> =
+            [0, 1, 5, 6, 7, 0x7F, 0x80, 0xFF].into_iter().flat_map(|n| local_at(fences, n)).collect();
+        all_work(random, &turns, false);
+    }
+}
+
+/// A turn that was taken: what it and the cycle of the same case answered.
+struct Taken {
+    reading: u8,
+    case: Lent,
+    fences: [Fence; 2],
+    answer: u64,
+    cycle: u64,
+}
+
+impl Taken {
+    fn bench(&self) -> Bench {
+        bench_of(self.case.clone())
+    }
+
+    fn is_short(&self) -> bool {
+        self.case.state.len() < STATE
+    }
+
+    fn fits(&self) -> bool {
+        sizes_fit(&self.bench())
+    }
+
+    fn opens(&self) -> bool {
+        opens_by_bytes(self.case.main.len(), self.fences)
+    }
+
+    /// The main address of the byte that the word would fetch or write.
+    fn address(&self) -> Option<usize> {
+        main_address(&self.bench())
+    }
+
+    /// What the papers make of the answer of the cycle.
+    fn expected(&self) -> u64 {
+        if self.is_short() {
+            refused(19)
+        } else if !self.fits() {
+            refused(1)
+        } else if !self.opens() {
+            refused(32)
+        } else if self.cycle == RAN && self.address().is_some_and(|at| !in_fence(self.fences[0], at)) {
+            refused(11)
+        } else {
+            self.cycle
+        }
+    }
+
+    /// It ran with a main address that is so by both fences and main storage's length.
+    fn ran_at(&self, is: fn(usize, [Fence; 2], usize) -> bool) -> bool {
+        self.answer == RAN && self.address().is_some_and(|at| is(at, self.fences, self.case.main.len()))
+    }
+
+    /// The same, refused by 11.
+    fn is_refused_at(&self, is: fn(usize, [Fence; 2], usize) -> bool) -> bool {
+        self.answer == refused(11) && self.address().is_some_and(|at| is(at, self.fences, self.case.main.len()))
+    }
+
+    /// The word at WX, which there is, has a CM that reads.
+    fn is_read(&self) -> bool {
+        next_word(&self.case.store, &self.case.state).is_some_and(|word| split(word)[CM] > 2)
+    }
+
+    /// All of main storage but for one byte is the board's own.
+    fn has_nearly_all(&self) -> bool {
+        self.opens() && self.fences.map(|fence| fence.end - fence.start) == [self.case.main.len() - 1, 1]
+    }
+}
+
+/// All but one byte at an end for the board, and that one for the other.
+fn nearly_all(random: &mut Random, main_len: usize) -> [Fence; 2] {
+    let last = main_len.max(2) - 1;
+    one_of(random, &[[fence(0, last), fence(last, last + 1)], [fence(1, last + 1), fence(0, 1)]])
+}
+
+/// The record's pairs that address storage are mostly in the board's fence, or at its edges.
+fn seat(random: &mut Random, case: &mut Lent, fences: [Fence; 2]) {
+    if let Some(record) = case.state.first_chunk_mut::<STATE>() {
+        let seated = draw_seated(random, case.store.len(), fences).to_bytes();
+        for place in [0, 1, 2, 3, 4, 5, 11, 12] {
+            record[place] = seated[place];
+        }
+    }
+}
+
+fn draw_turn(random: &mut Random) -> (u8, Lent, [Fence; 2]) {
+    let (reading, mut case) = draw_read(random, 4);
+    let main_len = case.main.len();
+    let fences = match random.below(4) {
+        0 => nearly_all(random, main_len),
+        _ => draw_fences(random, main_len, 6),
+    };
+    seat(random, &mut case, fences);
+    (reading, case, fences)
+}
+
+const TAKEN: [Kind<Taken>; 36] = [
+    ("a fetch in the fence", |case| case.ran_at(|_, _, _| true) && case.is_read()),
+    ("a write in the fence", |case| case.ran_at(|_, _, _| true) && !case.is_read()),
+    ("a fetch at the start", |case| case.ran_at(|at, [own, _], _| at == own.start) && case.is_read()),
+    ("a write at the start", |case| case.ran_at(|at, [own, _], _| at == own.start) && !case.is_read()),
+    ("a fetch of the last byte", |case| case.ran_at(|at, [own, _], _| at + 1 == own.end) && case.is_read()),
+    ("a write of the last byte", |case| case.ran_at(|at, [own, _], _| at + 1 == own.end) && !case.is_read()),
+    ("a fetch before the start", |case| case.is_refused_at(|at, [own, _], _| at + 1 == own.start) && case.is_read()),
+    ("a write before the start", |case| case.is_refused_at(|at, [own, _], _| at + 1 == own.start) && !case.is_read()),
+    ("a fetch at the end", |case| case.is_refused_at(|at, [own, _], _| at == own.end) && case.is_read()),
+    ("a write at the end", |case| case.is_refused_at(|at, [own, _], _| at == own.end) && !case.is_read()),
+    ("a fetch in the other's", |case| case.is_refused_at(in_the_others) && case.is_read()),
+    ("a write in the other's", |case| case.is_refused_at(in_the_others) && !case.is_read()),
+    ("a fetch in neither", |case| case.is_refused_at(in_the_gap) && case.is_read()),
+    ("a write in neither", |case| case.is_refused_at(in_the_gap) && !case.is_read()),
+    ("outside main storage", |case| case.is_refused_at(|at, _, main_len| at >= main_len)),
+    ("a cycle would have run", |case| case.answer == refused(11) && case.cycle == RAN),
+    ("ran with no main byte", |case| case.answer == RAN && case.address().is_none()),
+    ("a read of no main byte ran", |case| case.answer == RAN && case.address().is_none() && case.is_read()),
+    ("nearly all, ran in it", |case| case.has_nearly_all() && case.ran_at(|_, _, _| true)),
+    ("nearly all, ran without", |case| case.has_nearly_all() && case.answer == RAN && case.address().is_none()),
+    ("nearly all, in the byte left out", |case| case.has_nearly_all() && case.is_refused_at(in_the_others)),
+    ("stopped", |case| case.answer == STOPPED),
+    ("refused by 19", |case| case.answer == refused(19) && case.opens()),
+    ("refused by 19 beside wrong fences", |case| case.answer == refused(19) && !case.opens()),
+    ("refused by 1", |case| case.answer == refused(1) && case.opens()),
+    ("refused by 1 beside wrong fences", |case| case.answer == refused(1) && !case.opens()),
+    ("refused by 32, where a cycle runs", |case| case.answer == refused(32) && case.cycle == RAN),
+    ("refused by 32, where a cycle stops", |case| case.answer == refused(32) && case.cycle == STOPPED),
+    ("refused by 32 before 2", |case| case.answer == refused(32) && case.cycle == refused(2)),
+    ("refused by 32 before 3 to 9", |case| {
+        case.answer == refused(32) && (3..=9).any(|number| case.cycle == refused(number))
+    }),
+    ("refused by 32 before 10", |case| case.answer == refused(32) && is_refused(case.cycle, 10)),
+    ("refused by 32 before 11", |case| case.answer == refused(32) && case.cycle == refused(11)),
+    ("ran in compatibility", |case| case.answer == RAN && case.reading != BASIC),
+    ("ran in a longer record", |case| case.answer == RAN && case.case.state.len() > STATE),
+    ("ran from an odd latch", |case| case.answer == RAN && has_odd_latch(&case.case)),
+    ("refused by 11 from an odd latch", |case| case.answer == refused(11) && has_odd_latch(&case.case)),
+];
+
+/// A turn is the cycle but for 32, and for 11 at a byte outside the fence. The case of a turn, and of the cycle beside it, is
+/// one and the same.
+#[test]
+fn turns_are_cycles_but_for_the_fence() {
+    let random = &mut Random::new(229);
+    let cases: Vec<(u8, Lent, [Fence; 2])> = (0..20_000).map(|_| draw_turn(random)).collect();
+    let calls: Vec<Call> = cases
+        .iter()
+        .flat_map(|(reading, case, fences)| [cycle_of(*reading, case), turn_of(*reading, case, *fences)])
+        .collect();
+    let mut seen = Vec::new();
+    for ((reading, case, fences), both) in cases.into_iter().zip(made(&calls).chunks(2)) {
+        let [(cycle, plain), (answer, after)] = both else { unreachable!() };
+        let taken = Taken { reading, case, fences, answer: *answer, cycle: *cycle };
+        assert_eq!(*answer, taken.expected(), "{fences:?}");
+        let expected = if answer == cycle { lent_to(plain.clone()) } else { taken.case.clone() };
+        assert!(lent_to(after.clone()) == expected, "{fences:?} from {:02X?}", taken.case.state);
+        seen.push(taken);
+    }
+    each_occurs(&TAKEN, &seen);
+    let answers: Vec<u64> = seen.iter().map(|taken| taken.answer).collect();
+    assert_eq!(refusals(&answers, 8), BTreeSet::from([1, 2, 3, 4, 5, 6, 7, 8, 9, 10, 11, 19, 32]));
+}
+
+/// A board at a desk: its fence, its local storage and its record.
+#[derive(Clone)]
+struct Seat {
+    fence: Fence,
+    local: Vec<u8>,
+    state: Vec<u8>,
+}
+
+/// One store under one reading, one main storage, and board A and board B, which are 0 and 1.
+#[derive(Clone)]
+struct Desk {
+    reading: u8,
+    store: Vec<u64>,
+    main: Vec<u8>,
+    boards: [Seat; 2],
+}
+
+impl Desk {
+    /// A board's own fence and the other's.
+    fn fences(&self, which: usize) -> [Fence; 2] {
+        [which, 1 - which].map(|board| self.boards[board].fence)
+    }
+
+    /// What a board is lent.
+    fn lent(&self, which: usize) -> Lent {
+        let Seat { local, state, .. } = self.boards[which].clone();
+        Lent { store: self.store.clone(), main: self.main.clone(), local, state }
+    }
+
+    /// The call of a board's next turn, and what the second engine answers, which also leaves the desk for the next: so that
+    /// each call is lent what the one before it left.
+    fn turn(&mut self, which: usize) -> (Call, u64) {
+        let call = turn_of(self.reading, &self.lent(which), self.fences(which));
+        let mut after = call.clone();
+        let answer = after.make();
+        let seat = &mut self.boards[which];
+        Lent { main: self.main, local: seat.local, state: seat.state, .. } = lent_to(after);
+        (call, answer)
+    }
+}
+
+/// Whether a word leads to another module than the first.
+fn leads_away(word: u64) -> bool {
+    let word = split(word);
+    word[CL] == 2 && word[CA] != 0 || word[CM] < 3 && word[CU] == 2 && word[CK] != 0
+}
+
+/// The words of one module under a reading, mostly ones that run, none of which leads away.
+fn draw_module(random: &mut Random, reading: u8) -> Vec<u64> {
+    let stray = one_of(random, &[8, 32, 512]);
+    let mut word = |address: u32| loop {
+        let any = random.below(stray) == 0;
+        let word = if any { any_word(random, address) } else { common::running_word(random, address) };
+        if !leads_away(word) {
+            return word;
+        }
+    };
+    let store = (0..256).map(&mut word).collect();
+    if reading == BASIC {
+        return store;
+    }
+    common::in_compatibility(random, Bench { store, ..Bench::new(0) }).store
+}
+
+/// A record at a word of the store, mostly with addresses in the board's fence. A latch that is on has any value but 0.
+fn draw_record(random: &mut Random, words: usize, fences: [Fence; 2]) -> Vec<u8> {
+    let mut record = draw_seated(random, words, fences).to_bytes();
+    for latch in LATCHES {
+        record[latch] *= one_of(random, &[1, 1, 7, 255]);
+    }
+    record.to_vec()
+}
+
+/// Two boards in drawn fences, which are seldom wrong.
+fn draw_desk(random: &mut Random) -> Desk {
+    let reading = one_of(random, &READINGS);
+    let store = draw_module(random, reading);
+    let main_len = one_of(random, &[2, 3, 64, 255, 256, 257, 300]);
+    let fences = draw_fences(random, main_len, 16);
+    let main = bytes(random, main_len);
+    let boards = [fences, [fences[1], fences[0]]].map(|fences| {
+        let state = draw_record(random, store.len(), fences);
+        Seat { fence: fences[0], local: bytes(random, 256), state }
+    });
+    Desk { reading, store, main, boards }
+}
+
+/// The desk for a board alone: every byte outside its fence is another one, and the other's fence is as small as it can be.
+fn desk_alone(desk: &Desk, which: usize) -> Desk {
+    let mut alone = desk.clone();
+    let [own, other] = desk.fences(which);
+    for (at, byte) in alone.main.iter_mut().enumerate() {
+        *byte ^= if in_fence(own, at) { 0 } else { 0xFF };
+    }
+    if opens_by_bytes(desk.main.len(), [own, other]) {
+        let ends = [fence(other.start, other.start + 1), fence(other.end - 1, other.end)];
+        alone.boards[1 - which].fence = ends[which];
+    }
+    alone
+}
+
+/// A turn in the session and the same turn alone, both as the libraries answer them: the answer, the record, local storage and
+/// the fence's bytes are alike. In the session no byte outside the fence has changed.
+fn is_as_alone(own: Fence, found: &Call, turns: &[(u64, Call)]) {
+    let [(answer, after), (same, alone)] = turns else { unreachable!() };
+    let [found, after, alone] = [found, after, alone].map(|call| lent_to(call.clone()));
+    assert_eq!((answer, &after.state, &after.local), (same, &alone.state, &alone.local));
+    assert_eq!(after.main.get(own.start..own.end), alone.main.get(own.start..own.end));
+    let changed = |at: &usize| after.main[*at] != found.main[*at];
+    assert!((0..found.main.len()).filter(changed).all(|at| in_fence(own, at)));
+}
+
+/// The calls of a session, each followed by the same turn alone, and whose turns they are. A board that did not run goes on
+/// elsewhere, in both, and so does one in eight, since drawn words soon go round in few of them.
+fn session_calls(random: &mut Random, order: Order, desk: &mut Desk) -> (Vec<usize>, Vec<Call>) {
+    let mut alone = [0, 1].map(|which| desk_alone(desk, which));
+    let (mut boards, mut calls) = (Vec::new(), Vec::new());
+    for k in 0..TURNS_TAKEN {
+        let which = board_at(random, order, k);
+        let ((call, answer), (same, _)) = (desk.turn(which), alone[which].turn(which));
+        boards.push(which);
+        calls.extend([call, same]);
+        if answer != RAN || random.below(8) == 0 {
+            let state = draw_record(random, desk.store.len(), desk.fences(which));
+            alone[which].boards[which].state.clone_from(&state);
+            desk.boards[which].state = state;
+        }
+    }
+    (boards, calls)
+}
+
+fn in_session(random: &mut Random, order: Order) -> Session {
+    let found = draw_desk(random);
+    let mut desk = found.clone();
+    let (boards, calls) = session_calls(random, order, &mut desk);
+    let mut turns = Vec::new();
+    for ((which, calls), both) in boards.into_iter().zip(calls.chunks(2)).zip(made(&calls).chunks(2)) {
+        is_as_alone(found.boards[which].fence, &calls[0], both);
+        turns.push((which, both[0].0));
+    }
+    Session::of(order, found.reading == BASIC, found.fences(0), [&found.main, &desk.main], &turns)
+}
+
+#[test]
+fn neither_board_can_tell_what_the_other_does() {
+    let random = &mut Random::new(233);
+    let seen: Vec<Session> = (0..180).map(|k| in_session(random, ORDERS[k % 6])).collect();
+    each_occurs(&SESSIONS, &seen);
+    assert!(seen.iter().all(|case| case.opens == (case.closed == 0)));
+}
+
+/// The start of an addition of these fields, with a carry that is on at any value but 0.
+fn start_of(random: &mut Random, fields: &fences::Fields) -> Call {
+    let [first, second] = [fields.first, fields.second].map(|start| start as u16);
+    let on = if fields.carry { one_of(random, &CARRIES[1..]) } else { 0 };
+    Call::Start { program: Program::Add, first, second, length: fields.length as u8, on, state: vec![0xEE; STATE] }
+}
+
+/// Two boards on the shipped words, each at the start of an addition in its fence: words and records are the panel's own.
+fn desk_of_sums(random: &mut Random, main: Vec<u8>, fences: [Fence; 2], fields: &[fences::Fields; 2]) -> Desk {
+    let shipped = Call::Shipped { program: Program::Add, words: vec![0; 21] };
+    let [a, b] = fields.each_ref().map(|fields| start_of(random, fields));
+    let left = made(&[shipped, a, b]);
+    assert_eq!(left.iter().map(|(answer, _)| *answer).collect::<Vec<_>>(), [21, 0, 0]);
+    let Call::Shipped { words: store, .. } = left[0].1.clone() else { unreachable!() };
+    let seat = |which: usize| Seat {
+        fence: fences[which],
+        local: bytes(random, 256),
+        state: record_lent(&left[1 + which].1).to_vec(),
+    };
+    Desk { reading: BASIC, store, main, boards: [0, 1].map(seat) }
+}
+
+/// Board A's addition by the entry in its fence, and by a run with no fence, each on a copy: what they answer and leave.
+fn added_alone(desk: &Desk, fields: &fences::Fields) -> [(u64, Lent); 2] {
+    let run = run_of(BASIC, &desk.lent(0), 1_000_000);
+    let (main, local, within) = (desk.main.clone(), desk.boards[0].local.clone(), desk.boards[0].fence);
+    let fences::Fields { first, second, length, carry } = *fields;
+    let operation = Operation::AddIn { carry: if carry { 200 } else { 0 }, within };
+    let left = made(&[Call::Sum { operation, main, local, first, second, length }, run]);
+    let [(added, Call::Sum { main, local, .. }), (ran, run)] = &left[..] else { unreachable!() };
+    let run = lent_to(run.clone());
+    let sum = Lent { main: main.clone(), local: local.clone(), ..run.clone() };
+    [(*added, sum), (*ran, run)]
+}
+
+/// Turns in an order until board A has had so many. The other board adds over and over, or goes about in the words from any
+/// record.
+fn turns_until(random: &mut Random, order: Order, desk: &mut Desk, turns: u64) -> Vec<(usize, Call)> {
+    let start = desk.boards[1].state.clone();
+    let (mut calls, mut had) = (Vec::new(), 0);
+    for k in 0.. {
+        if had == turns {
+            break;
+        }
+        let which = board_at(random, order, k);
+        let (call, answer) = desk.turn(which);
+        calls.push((which, call));
+        had += u64::from(which == 0);
+        if which == 1 && answer != RAN {
+            let other = draw_record(random, desk.store.len(), desk.fences(1));
+            desk.boards[1].state = one_of(random, &[&start, &other]).clone();
+        }
+    }
+    calls
+}
+
+/// The ending of the turns of board A: all of them ran but the last, which stopped. So one turn fewer, and it has not stopped.
+fn stops_last(answers: &[u64], cycles: u64) {
+    let ran = answers.iter().take_while(|answer| **answer == RAN).count();
+    assert_eq!((ran as u64, &answers[ran..]), (cycles, &[STOPPED][..]));
+}
+
+/// What board A has at the end is what both others have: the bytes of its fence, the record with the word that it stopped at,
+/// and S3. The entry answers by that word and by S3.
+fn ends_as_alone(desk: &Desk, [(added, sum), (ran, run)]: &[(u64, Lent); 2]) {
+    let Seat { fence: Fence { start, end }, local, state } = &desk.boards[0];
+    assert_eq!(*ran, cycles(*added) << 32 | STOPPED);
+    for alone in [sum, run] {
+        assert_eq!((&desk.main[*start..*end], local), (&alone.main[*start..*end], &alone.local));
+    }
+    assert_eq!(*state, run.state);
+    let (wx, s3) = (wx_of(state), u64::from(state[8] >> 4 & 1));
+    match *added & 0xFF {
+        SUMMED => assert_eq!((wx, *added >> 16 & 0xFFFF), (SUMMED_AT, s3)),
+        kind => assert!(kind == BAD_DIGIT && BAD_AT[..2].contains(&wx), "{kind} at {wx:03X}"),
+    }
+}
+
+fn summed_beside_another(random: &mut Random, order: Order, found: &Desk, fields: fences::Fields) -> Summed {
+    let (mut desk, alone) = (found.clone(), added_alone(found, &fields));
+    let answer = alone[0].0;
+    assert!(cycles(answer) <= 40 * fields.length as u64 + 40);
+    let calls = turns_until(random, order, &mut desk, cycles(answer) + 1);
+    let (boards, calls): (Vec<usize>, Vec<Call>) = calls.into_iter().unzip();
+    let answers = agree(&calls);
+    let of = |which: usize| boards.iter().zip(&answers).filter(move |turn| *turn.0 == which).map(|turn| *turn.1);
+    stops_last(&of(0).collect::<Vec<_>>(), cycles(answer));
+    ends_as_alone(&desk, &alone);
+    let carry = (answer & 0xFF == SUMMED).then_some(answer >> 16 & 1 == 1);
+    let others: Vec<u64> = of(1).collect();
+    Summed::of(order, (fields, carry), found.fences(0), [&found.main, &desk.main], &others)
+}
+
+/// Demand 3 in a session: once board A has had its cycles and one turn more, it has ended as the entry in its fence does.
+#[test]
+fn the_shipped_words_end_after_their_own_cycles() {
+    let random = &mut Random::new(239);
+    let mut seen = Vec::new();
+    for k in 0..180 {
+        let low = one_of(random, &[0, 1, 0xE0, 0x1F0]);
+        let (main, fences, fields) = fences::draw_sums(random, low);
+        let mut desk = desk_of_sums(random, main, fences, &fields);
+        if random.below(2) == 0 {
+            desk.boards[1].state = draw_record(random, desk.store.len(), desk.fences(1));
+        }
+        seen.push(summed_beside_another(random, ORDERS[k % 6], &desk, fields[0]));
+    }
+    each_occurs(&SUMS, &seen);
+}
+
+/// In the last four bytes of main storage, in fences that touch: 38 + 47 + 1 is 86, and 99 + 01 is 00 with a carry.
+#[test]
+fn two_sums_by_hand_at_the_end_of_main_storage() {
+    let random = &mut Random::new(241);
+    let fences = [fence(65_532, 65_534), fence(65_534, 65_536)];
+    let fields = [
+        fences::Fields { first: 65_532, second: 65_533, length: 1, carry: true },
+        fences::Fields { first: 65_535, second: 65_534, length: 1, carry: false },
+    ];
+    let mut main = bytes(random, 65_536);
+    main[65_532..].copy_from_slice(&[0x38, 0x47, 0x01, 0x99]);
+    let found = desk_of_sums(random, main, fences, &fields);
+    let mut desk = found.clone();
+    let mut calls = Vec::new();
+    // B has two turns for each of A's.
+    for which in [0, 1, 1].repeat(40) {
+        calls.push(desk.turn(which).0);
+    }
+    let answers = agree(&calls);
+    assert_eq!(answers.iter().rev().take(3).collect::<Vec<_>>(), [&STOPPED; 3]);
+    assert_eq!(desk.main[65_532..], [0x86, 0x47, 0x01, 0x00]);
+    assert_eq!(desk.main[..65_532], found.main[..65_532]);
+    for (board, carry) in desk.boards.iter().zip([0, 0x10]) {
+        assert_eq!((wx_of(&board.state), board.state[8] & 0x10), (SUMMED_AT, carry));
+    }
+}
+
+/// An addition in a fence, of main storage that is all of one byte.
+fn add_in(byte: u8, [main, local]: [usize; 2], [first, second, length]: [usize; 3], within: Fence) -> Call {
+    let operation = Operation::AddIn { carry: 0, within };
+    Call::Sum { operation, main: vec![byte; main], local: vec![0x5C; local], first, second, length }
+}
+
+/// Additions of 11 and 11 in 100 bytes: the first field is then all 22 and nothing else has changed, or this number refuses it.
+fn all_end(cases: &[(Result<(), u64>, [usize; 3], Fence)]) {
+    let calls: Vec<Call> = cases.iter().map(|(_, fields, within)| add_in(0x11, [100, 256], *fields, *within)).collect();
+    for ((expected, fields, within), (answer, after)) in cases.iter().zip(made(&calls)) {
+        let Call::Sum { main, .. } = after else { unreachable!() };
+        let mut sum = [0x11; 100];
+        if expected.is_ok() {
+            sum[fields[0]..fields[0] + fields[2]].fill(0x22);
+        }
+        let wanted = expected.map_or_else(refused, |()| SUMMED);
+        assert_eq!((ending(answer), &main[..]), (wanted, &sum[..]), "{fields:?} in {within:?}");
+    }
+}
+
+/// Fields that just fit their fence, and the fence one byte less at either end: 13, or an empty fence.
+#[test]
+fn fields_that_just_fit_their_fence() {
+    for (fields, within) in JUST_FIT {
+        let less = if within.end - within.start == 1 { 32 } else { 13 };
+        let shorter = [fence(within.start + 1, within.end), fence(within.start, within.end - 1)];
+        let cases = shorter.map(|within| (Err(less), fields, within));
+        all_end(&[&[(Ok(()), fields, within)], &cases[..]].concat());
+    }
+}
+
+/// Main storage has room for the first of these fields, and the fence has not. The last ones start as far as numbers go.
+#[test]
+fn a_field_over_either_edge_is_13() {
+    let over = [0, 11, 19, 52, 53, 59, 60, 91];
+    let far = [92, 100, 0x1_0014, 0x1_0000_0014, MAX / 2, MAX - 9, MAX - 8, MAX - 7, MAX];
+    let starts = over.into_iter().chain(far).map(|start| (Err(13), start)).chain([20, 51].map(|start| (Ok(()), start)));
+    for ((expected, start), other) in starts.flat_map(|start| [30, 42].map(|other| (start, other))) {
+        let fields = [[start, other, 9], [other, start, 9], [start, start, 9]];
+        all_end(&fields.map(|fields| (expected, fields, WITHIN)));
+    }
+}
+
+/// Additions of bad digits that each of 1, 32, 12, 13 and 14 refuses though all later ones would too.
+fn add_checks() -> Vec<(u64, Call)> {
+    let of = |number: u64, sizes: [usize; 2], fields: [usize; 3], within: Fence| {
+        (refused(number), add_in(0xFF, sizes, fields, within))
+    };
+    let right = |number: u64, fields: [usize; 3]| of(number, [100, 256], fields, WITHIN);
+    let mut checks = Vec::new();
+    for within in [WITHIN].into_iter().chain(NOT_WITHIN) {
+        let sizes = [[0, 256], [65_537, 256], [100, 0], [100, 255], [100, 257]];
+        checks.extend(sizes.map(|sizes| of(1, sizes, [99, 98, 0], within)));
+    }
+    for within in NOT_WITHIN {
+        let fields = [[99, 98, 0], [99, 98, 17], [99, 98, 9], [20, 21, 9], [20, 40, 9]];
+        checks.extend(fields.map(|fields| of(32, [100, 256], fields, within)));
+    }
+    for length in [0, 17, 0x101, 0x1_0000_0001, MAX] {
+        checks.extend([[99, 98, length], [20, 40, length]].map(|fields| right(12, fields)));
+    }
+    checks.extend([[19, 20, 9], [20, 19, 9], [52, 51, 9], [51, 52, 9]].map(|fields| right(13, fields)));
+    checks.extend((1..9).flat_map(|by| [[20, 20 + by, 9], [20 + by, 20, 9]]).map(|fields| right(14, fields)));
+    checks
+}
+
+#[test]
+fn an_add_in_a_fence_checks_in_order() {
+    let (expected, calls): (Vec<u64>, Vec<Call>) = add_checks().into_iter().unzip();
+    assert_eq!(agree(&calls), expected);
+    assert_eq!(refusals(&expected, 8), BTreeSet::from([1, 12, 13, 14, 32]));
+    let bad = [[20, 29, 9], [29, 20, 9], [20, 20, 9], [51, 20, 9]];
+    let answers = agree(&bad.map(|fields| add_in(0xFF, [100, 256], fields, WITHIN)));
+    assert!(answers.into_iter().all(|answer| ending(answer) == BAD_DIGIT && cycles(answer) > 0));
+}
+
+/// An addition in a fence beside the plain one of the same fields: what both answered.
+struct Fenced {
+    within: Fence,
+    fields: [usize; 3],
+    main_len: usize,
+    plain: u64,
+    answer: u64,
+}
+
+impl Fenced {
+    fn stands(&self) -> bool {
+        self.within.start < self.within.end && self.within.end <= self.main_len
+    }
+
+    /// Whether both fields are in the fence, where the plain addition has found them in main storage.
+    fn holds(&self) -> bool {
+        let [first, second, length] = self.fields;
+        [first, second].into_iter().all(|start| start >= self.within.start && start + length <= self.within.end)
+    }
+
+    /// What the papers make of the answer of the plain one.
+    fn expected(&self) -> u64 {
+        match self.plain {
+            plain if plain == refused(1) => plain,
+            _ if !self.stands() => refused(32),
+            plain if plain == refused(12) || plain == refused(13) => plain,
+            _ if !self.holds() => refused(13),
+            plain => plain,
+        }
+    }
+
+    /// Neither refused.
+    fn is_done(&self) -> bool {
+        self.answer & 0xFF != REFUSED
+    }
+
+    fn lowest(&self) -> usize {
+        self.fields[0].min(self.fields[1])
+    }
+
+    /// Where the higher field ends.
+    fn last(&self) -> usize {
+        self.fields[0].max(self.fields[1]).saturating_add(self.fields[2])
+    }
+
+    /// Refused by 13 for the fence alone.
+    fn is_over(&self) -> bool {
+        self.answer == refused(13) && self.plain != refused(13)
+    }
+}
+
+/// A fence round all of main storage, or at the edges of the fields, or wrong.
+fn draw_within(random: &mut Random, [first, second, length]: [usize; 3], main_len: usize) -> Fence {
+    let (low, last) = (first.min(second), first.max(second).saturating_add(length));
+    let starts = [0, 0, 0, low, low, low.saturating_sub(1), low.saturating_add(1), first.max(second)];
+    let ends = [main_len, main_len, main_len, last, last, last.saturating_add(1), last.saturating_sub(1)];
+    let within = fence(one_of(random, &starts), one_of(random, &ends));
+    match random.below(16) {
+        0 => fence(within.start, within.start),
+        1 => fence(within.end, within.start),
+        2 => fence(within.start, main_len + 1),
+        3 => fence(within.start, MAX),
+        4 => fence(MAX, within.end),
+        _ => within,
+    }
+}
+
+/// The plain addition, and the same one in a fence.
+fn draw_both(random: &mut Random) -> [Call; 2] {
+    let plain = draw_add(random);
+    let call = draw_sum(random, plain);
+    let (Operation::Add { carry }, Call::Sum { main, first, second, length, .. }) = (plain, &call) else {
+        unreachable!()
+    };
+    let within = draw_within(random, [*first, *second, *length], main.len());
+    let mut fenced = call.clone();
+    if let Call::Sum { operation, .. } = &mut fenced {
+        *operation = Operation::AddIn { carry, within };
+    }
+    [call, fenced]
+}
+
+const FENCED: [Kind<Fenced>; 21] = [
+    ("round all", |case| case.is_done() && case.within == fence(0, case.main_len)),
+    ("round all of 65,536", |case| case.is_done() && case.within == fence(0, 65_536)),
+    ("round all, refused as the plain one", |case| {
+        case.answer == case.plain && !case.is_done() && case.within == fence(0, case.main_len)
+    }),
+    ("just round the fields", |case| case.is_done() && case.within == fence(case.lowest(), case.last())),
+    ("just round one field twice", |case| {
+        case.is_done() && case.fields[0] == case.fields[1] && case.within == fence(case.lowest(), case.last())
+    }),
+    ("a bad digit in it", |case| case.answer & 0xFF == BAD_DIGIT && case.within.start > 0),
+    ("the first before the start", |case| case.is_over() && case.fields[0] + 1 == case.within.start),
+    ("the second before the start", |case| case.is_over() && case.fields[1] + 1 == case.within.start),
+    ("the first past the end", |case| case.is_over() && case.fields[0] + case.fields[2] == case.within.end + 1),
+    ("the second past the end", |case| case.is_over() && case.fields[1] + case.fields[2] == case.within.end + 1),
+    ("13 before 14", |case| case.is_over() && case.plain == refused(14)),
+    ("13 for a bad digit", |case| case.is_over() && case.plain & 0xFF == BAD_DIGIT),
+    ("empty", |case| case.answer == refused(32) && case.within.start == case.within.end),
+    ("its end before its start", |case| case.answer == refused(32) && case.within.end < case.within.start),
+    ("one past the end", |case| case.answer == refused(32) && case.within.end == case.main_len + 1),
+    ("as far as numbers go", |case| case.answer == refused(32) && case.within.end == MAX),
+    ("32 before 12", |case| case.answer == refused(32) && case.plain == refused(12)),
+    ("32 before 13", |case| case.answer == refused(32) && case.plain == refused(13)),
+    ("32 before 14", |case| case.answer == refused(32) && case.plain == refused(14)),
+    ("1 before 32", |case| case.answer == refused(1) && !case.stands()),
+    ("12 in a right fence", |case| case.answer == refused(12)),
+];
+
+/// In a fence an addition is the plain one, with its carry, count and storages, but for 32 and 13.
+#[test]
+fn adds_in_a_fence_are_adds() {
+    let random = &mut Random::new(251);
+    let calls: Vec<[Call; 2]> = (0..12_000).map(|_| draw_both(random)).collect();
+    let in_fences: Vec<Call> = calls.iter().map(|[_, fenced]| fenced.clone()).collect();
+    sums_agree(&in_fences, &[1, 12, 13, 14, 32]);
+    let mut seen = Vec::new();
+    for (both, fenced) in made(&calls.concat()).chunks(2).zip(in_fences) {
+        let [(plain, after), (answer, left)] = both else { unreachable!() };
+        let Call::Sum { operation: Operation::AddIn { within, .. }, main, first, second, length, .. } = &fenced else {
+            unreachable!()
+        };
+        let fields = [*first, *second, *length];
+        let case = Fenced { within: *within, fields, main_len: main.len(), plain: *plain, answer: *answer };
+        assert_eq!(*answer, case.expected(), "{fields:?} in {within:?}");
+        assert!(!case.is_done() || left.told(0) == after.told(0), "{fields:?} in {within:?}");
+        seen.push(case);
+    }
+    each_occurs(&FENCED, &seen);
 }

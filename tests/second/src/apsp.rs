@@ -3,6 +3,7 @@
 
 use crate::bits::both_decimal;
 use crate::decimal::numbers;
+use crate::session::Fence;
 use crate::signed::{put_number, sign_and_size};
 use crate::Refusal;
 
@@ -22,7 +23,7 @@ pub fn add_signed(
     length: usize,
     subtract: bool,
 ) -> Outcome {
-    let (augend, addend) = match numbers(main, local, [first, second], length, value) {
+    let (augend, addend) = match numbers(main, local, Fence::round(main), [first, second], length, value) {
         Ok(Some(numbers)) => numbers,
         Ok(None) => return Outcome::Bad,
         Err(number) => return Outcome::Refused { number },

@@ -5,13 +5,14 @@ use crate::cycle::{cycle, next_work, Answer};
 use crate::decimal::{add_decimal, Outcome};
 use crate::reading::Reading;
 use crate::run::Ending;
+use crate::session::{open, turn, Fence};
 use crate::shipped::{self, APSP, SHIPPED};
 use crate::state::{State, RECORD};
 use crate::trap::trap;
 use crate::word::LAYOUT;
 use crate::{apsp, Refusal};
 
-/// The refusals in words, by number; nothing gives 0, 23, 24, 28, 31 or 32.
+/// The refusals in words, by number; nothing gives 0, 23, 24, 28 or 31.
 pub const WORDS: [&str; 34] = [
     "",
     "a size is wrong: of the word store, of main or of local storage",
@@ -24,9 +25,9 @@ pub const WORDS: [&str; 34] = [
     "CL = 2 and K to W, or a return, in one word",
     "PK is wrong",
     "a code is not modelled",
-    "the main address is not in main storage",
+    "the main address is not in main storage, or not in the fence",
     "the decimal length is not 1 to 16",
-    "a decimal field does not lie in main storage",
+    "a decimal field does not lie in main storage, or in the fence",
     "the decimal fields overlap and do not start together",
     "the deck's length is 0, no multiple of 512, or over 34304",
     "a block's number is not its place",
@@ -45,7 +46,7 @@ pub const WORDS: [&str; 34] = [
     "a trap is open, and its return is owed",
     "the trap address is over 4095",
     "",
-    "",
+    "a fence is empty or outside main storage, or the two overlap",
     "the signed field is not of 8 bytes",
 ];
 
@@ -336,8 +337,7 @@ pub fn run_with_traps(
         let (at, work) = (state.wx, next_work(store, &state));
         match cycle(reading, store, &mut main, &mut local, &mut state) {
             Answer::Ran => view.push(&mut text, number, at, &state, &work.expect("the work of a cycle that ran")),
-            Answer::Stopped => ending = Ending::Stopped,
-            Answer::Refused { number, field } => ending = Ending::Refused { number, field },
+            other => ending = Ending::with(other),
         }
         if ending != Ending::Spent {
             break;
@@ -345,6 +345,103 @@ pub fn run_with_traps(
     }
     text += &ended(ending, &state);
     (text, ending)
+}
+
+/// Two boards at one store and one image of main storage, as `board two` is given them; of a pair, the first is board A's.
+pub struct Two<'a> {
+    pub reading: Reading,
+    pub store: &'a [u64],
+    pub main: &'a [u8],
+    pub fences: [Fence; 2],
+    /// Letters A and B, of which at least one, and small ones too: whose turn it is, repeated as needed.
+    pub order: &'a str,
+    pub starts: [State; 2],
+    pub turns: u64,
+}
+
+/// One of the two as it goes on.
+struct Board {
+    letter: char,
+    local: [u8; 256],
+    state: State,
+    /// How many of its cycles have run.
+    ran: u64,
+    /// Spent as long as it goes on; what it stopped with or was refused by stays.
+    ending: Ending,
+}
+
+impl Board {
+    fn new(letter: char, state: State) -> Board {
+        Board { letter, local: [0; 256], state, ran: 0, ending: Ending::Spent }
+    }
+
+    /// What `board run` prints, its lines after the board's letter.
+    fn say(&self, text: &mut String, said: &str) {
+        for line in said.split_inclusive('\n') {
+            text.extend([self.letter, ' ']);
+            *text += line;
+        }
+    }
+
+    fn goes_on(&self) -> bool {
+        self.ending == Ending::Spent
+    }
+
+    /// A turn over main storage, and its line. That of a board that does not go on passes: it would change nothing.
+    fn take(&mut self, text: &mut String, asked: &Two, main: &mut [u8], [own, other]: [Fence; 2], view: &View) {
+        if !self.goes_on() {
+            return;
+        }
+        let (at, work) = (self.state.wx, next_work(asked.store, &self.state));
+        let answer = turn(asked.reading, asked.store, main, &mut self.local, &mut self.state, own, other);
+        self.ending = Ending::with(answer);
+        let mut said = String::new();
+        if answer == Answer::Ran {
+            self.ran += 1;
+            view.push(&mut said, self.ran, at, &self.state, &work.expect("the work of a cycle that ran"));
+        } else {
+            said = ended(self.ending, &self.state);
+        }
+        self.say(text, &said);
+    }
+}
+
+/// Whose turn each letter of an order makes it: 0 is board A.
+fn boards_of(order: &str) -> Vec<usize> {
+    let board = |letter| match letter {
+        'A' | 'a' => 0,
+        'B' | 'b' => 1,
+        other => panic!("{other} is no board"),
+    };
+    order.chars().map(board).collect()
+}
+
+/// All the turns, those that pass counted with the others, and a line of each that is shown.
+fn take_turns(text: &mut String, asked: &Two, boards: &mut [Board; 2], view: &View) {
+    let (mut main, order) = (asked.main.to_vec(), boards_of(asked.order));
+    for (_, &which) in (0..asked.turns).zip(order.iter().cycle()) {
+        boards[which].take(text, asked, &mut main, [asked.fences[which], asked.fences[1 - which]], view);
+    }
+}
+
+/// All that is printed of two boards that take turns, each with local storage of zeros, and which of them were refused; or
+/// what refuses the fences, and then nothing is printed. A stop and a refusal are told once, in their turn; a board that goes
+/// on is spent, at the end. The view is one of lines.
+pub fn two(asked: &Two, view: &View) -> Result<(String, [bool; 2]), Refusal> {
+    let [a, b] = asked.fences;
+    open(asked.main.len(), a, b)?;
+    let mut boards = [Board::new('A', asked.starts[0]), Board::new('B', asked.starts[1])];
+    let mut text = format!("  {}", header());
+    for board in &boards {
+        let mut said = String::new();
+        view.push_start(&mut said, &board.state);
+        board.say(&mut text, &said);
+    }
+    take_turns(&mut text, asked, &mut boards, view);
+    for board in boards.iter().filter(|board| board.goes_on()) {
+        board.say(&mut text, &ended(Ending::Spent, &board.state));
+    }
+    Ok((text, boards.map(|board| matches!(board.ending, Ending::Refused { .. }))))
 }
 
 // Where an addition's fields lie.
@@ -545,7 +642,7 @@ CYCLE     12 AT 00F
         assert_eq!(of(Ending::Spent), "SPENT AT 005\n");
         let refused = |number, field| of(Ending::Refused { number, field });
         assert_eq!(refused(10, 8), "REFUSED 10 CA AT 005: a code is not modelled\n");
-        assert_eq!(refused(11, 0), "REFUSED 11 AT 005: the main address is not in main storage\n");
+        assert_eq!(refused(11, 0), "REFUSED 11 AT 005: the main address is not in main storage, or not in the fence\n");
     }
 
     #[test]
@@ -711,6 +808,209 @@ CYCLE     12 AT 00F
             let rest: String = text.split_inclusive('\n').filter(|line| !line.starts_with("TRAP")).collect();
             assert_eq!((rest, ending), of(&[]));
             assert_ne!(text, of(&[]).0);
+        }
+    }
+
+    #[test]
+    fn three_refusals_speak_of_fences() {
+        assert_eq!(in_words(11), "the main address is not in main storage, or not in the fence");
+        assert_eq!(in_words(13), "a decimal field does not lie in main storage, or in the fence");
+        assert_eq!(in_words(32), "a fence is empty or outside main storage, or the two overlap");
+    }
+
+    /// L is added to a byte of local storage and to one of main storage, for ever. At 008 a stop, and no word after it.
+    fn tallying() -> Vec<u64> {
+        let mut store = vec![0; 9];
+        let mut put = |at: usize, next: u8, codes: &[(&str, u8)]| {
+            let address = [("CN", next / 4), ("CH", next / 2 % 2), ("CL", next % 2)];
+            store[at] = build(at as u32, &[&address, codes].concat()).unwrap();
+        };
+        for (at, next, read) in [(0, 3, [("CM", 4), ("CU", 1)]), (3, 0, [("CM", 3), ("CU", 0)])] {
+            put(at, at as u8 + 1, &[&[("CA", 4)], &read[..]].concat());
+            put(at + 1, at as u8 + 2, &[("CM", 1), ("CA", 9), ("CF", 3), ("CG", 3), ("CD", 7)]);
+            put(at + 2, next, &[("CA", 4), ("CM", 0)]);
+        }
+        put(8, 0, &[("CF", 4)]);
+        store
+    }
+
+    const FENCES: [Fence; 2] = [Fence { start: 0x10, end: 0x20 }, Fence { start: 0x20, end: 0x28 }];
+
+    /// Both look at the same byte of local storage, and each at one of its own fence: A's last and B's first.
+    fn seated(wx: [u16; 2]) -> [State; 2] {
+        use crate::state::{J, L};
+        [(0x1F, 1, wx[0]), (0x20, 7, wx[1])].map(|(j, l, wx)| {
+            let mut state = State { wx, ..State::default() };
+            (state.registers[J], state.registers[L]) = (j, l);
+            state
+        })
+    }
+
+    /// Of those words and fences, over 40 bytes of zeros.
+    fn of_two(wx: [u16; 2], order: &str, turns: u64, view: &View) -> (String, [bool; 2]) {
+        let (store, main) = (tallying(), [0; 40]);
+        let asked = Two {
+            reading: Reading::Basic,
+            store: &store,
+            main: &main,
+            fences: FENCES,
+            order,
+            starts: seated(wx),
+            turns,
+        };
+        two(&asked, view).expect("right fences")
+    }
+
+    /// Each line but the headings: up to its address where it is a cycle's, else all of it.
+    fn told(text: &str) -> Vec<&str> {
+        text.lines().skip(1).map(|line| if line[2..].starts_with(' ') { line[..13].trim_end() } else { line }).collect()
+    }
+
+    #[test]
+    fn two_boards_that_go_on_have_a_line_a_turn() {
+        let (text, refused) = of_two([4, 0], "AB", 5, &View::LINES);
+        assert_eq!(text.lines().next(), Some(&*format!("  {}", HEADER.trim_end())));
+        let lines =
+            ["A       0 ---", "B       0 ---", "A       1 004", "B       1 000", "A       2 005", "B       2 001"];
+        let last = ["A       3 000", "A SPENT AT 001", "B SPENT AT 002"];
+        assert_eq!((told(&text), refused), ([&lines[..], &last].concat(), [false; 2]));
+        assert!(text.lines().skip(1).take(7).all(|line| [95, 126].contains(&(line.len() + 1))), "{text}");
+    }
+
+    /// Each board's own lines are all that `board run` prints of it alone, the headings apart.
+    #[test]
+    fn two_boards_print_what_each_prints_alone() {
+        for (order, of_a, of_b) in [
+            ("AB", 20, 20),
+            ("ab", 20, 20),
+            ("BA", 20, 20),
+            ("AAB", 27, 13),
+            ("ABBBA", 16, 24),
+            ("A", 40, 0),
+            ("b", 0, 40),
+        ] {
+            let (text, refused) = of_two([0, 3], order, 40, &View::LINES);
+            let [a, b] = seated([0, 3]);
+            for (letter, start, cycles) in [("A ", a, of_a), ("B ", b, of_b)] {
+                let (alone, ending) = run(Reading::Basic, &tallying(), &[0; 40], start, cycles, &View::LINES);
+                let own: Vec<&str> = text.lines().filter_map(|line| line.strip_prefix(letter)).collect();
+                assert_eq!(own, alone.lines().skip(1).collect::<Vec<_>>(), "{letter}of {order}");
+                assert_eq!(ending, Ending::Spent);
+            }
+            assert_eq!(refused, [false; 2]);
+        }
+    }
+
+    #[test]
+    fn a_board_that_stops_or_is_refused_says_so_once() {
+        let view = &View { from: 1, ..View::LINES };
+        let stop = "A STOPPED AT 008";
+        let none = "B REFUSED 2 AT 00A: WX is not in the word store";
+        for (order, lines) in [
+            ("AB", vec![stop, none]),
+            ("BA", vec![none, stop]),
+            ("AAB", vec![stop, none]),
+            ("BBA", vec![none, stop]),
+            ("A", vec![stop, "B SPENT AT 00A"]),
+            ("BB", vec![none, "A SPENT AT 008"]),
+        ] {
+            let refused = [false, order.contains('B')];
+            for turns in [3, 4, 99] {
+                let (text, who) = of_two([8, 10], order, turns, view);
+                assert_eq!((told(&text), who), (lines.clone(), refused), "{order}");
+            }
+        }
+        // The turns end before the other has one.
+        let (text, refused) = of_two([10, 8], "AAB", 2, view);
+        let none = "A REFUSED 2 AT 00A: WX is not in the word store";
+        assert_eq!((told(&text), refused), (vec![none, "B SPENT AT 008"], [true, false]));
+    }
+
+    /// They print nothing, and the other has no more turns for them.
+    #[test]
+    fn turns_that_pass_are_counted() {
+        let view = &View { from: 1, ..View::LINES };
+        let (text, refused) = of_two([0, 10], "ABB", 7, view);
+        let none = "B REFUSED 2 AT 00A: WX is not in the word store";
+        let lines = ["A       1 000", none, "A       2 001", "A       3 002", "A SPENT AT 003"];
+        assert_eq!((told(&text), refused), (lines.to_vec(), [false, true]));
+        let (text, refused) = of_two([8, 2], "AAB", 5, view);
+        assert_eq!((told(&text), refused), (vec!["A STOPPED AT 008", "B       1 002", "B SPENT AT 003"], [false; 2]));
+    }
+
+    /// Its own fence, and not main storage: A's pair is moved to B's byte.
+    #[test]
+    fn a_board_is_refused_by_11_in_the_others_fence() {
+        let (store, main) = (tallying(), [0; 40]);
+        let starts = [seated([3, 3])[1]; 2];
+        let asked =
+            Two { reading: Reading::Basic, store: &store, main: &main, fences: FENCES, order: "AB", starts, turns: 3 };
+        let (text, refused) = two(&asked, &View { from: 1, ..View::LINES }).expect("right fences");
+        let line = "A REFUSED 11 AT 003: the main address is not in main storage, or not in the fence";
+        assert_eq!((told(&text), refused), (vec![line, "B       1 003", "B SPENT AT 004"], [true, false]));
+    }
+
+    #[test]
+    fn no_turn_is_two_starts_and_two_endings() {
+        let lines = ["A       0 ---", "B       0 ---", "A SPENT AT 000", "B SPENT AT 00A"];
+        assert_eq!(told(&of_two([0, 10], "AB", 0, &View::LINES).0), lines);
+    }
+
+    /// A cycle's number is the board's own; a stop is shown whatever is asked for, where it came about.
+    #[test]
+    fn two_boards_show_the_cycles_asked_for() {
+        let of = |from, to| {
+            let (text, _) = of_two([0, 8], "AABA", 8, &View { from, to, ..View::LINES });
+            told(&text).into_iter().map(str::to_owned).collect::<Vec<_>>()
+        };
+        let stop = "B STOPPED AT 008";
+        assert_eq!(of(0, 0), ["A       0 ---", "B       0 ---", stop, "A SPENT AT 000"]);
+        assert_eq!(of(2, 4), ["A       2 001", stop, "A       3 002", "A       4 003", "A SPENT AT 000"]);
+        assert_eq!(of(6, 6), [stop, "A       6 005", "A SPENT AT 000"]);
+        assert_eq!(of(7, 9), [stop, "A SPENT AT 000"]);
+    }
+
+    #[test]
+    fn wrong_fences_print_nothing() {
+        let (store, main) = (tallying(), [0; 40]);
+        let of = |fences| {
+            let (order, starts) = ("AB", seated([0, 0]));
+            two(
+                &Two { reading: Reading::Basic, store: &store, main: &main, fences, order, starts, turns: 9 },
+                &View::LINES,
+            )
+        };
+        let fence = |start, end| Fence { start, end };
+        assert!(of([fence(0, 20), fence(20, 40)]).is_ok());
+        for fences in [
+            [fence(0, 21), fence(20, 40)],
+            [fence(0, 20), fence(20, 41)],
+            [fence(20, 41), fence(0, 20)],
+            [fence(5, 5), fence(20, 40)],
+            [fence(0, 20), fence(30, 29)],
+        ] {
+            assert_eq!(of(fences), Err(32), "{fences:?}");
+        }
+    }
+
+    /// CH 8 is R2 there, and S1 in basic.
+    #[test]
+    fn one_reading_serves_both_boards() {
+        let store = [build(0, &[("CA", 4), ("CM", 1), ("CH", 8)]).unwrap(), 0, 0];
+        let mut start = State::default();
+        start.registers[crate::state::R] = 0x20;
+        for (reading, next) in [(Reading::Basic, "000"), (Reading::Compatibility, "002")] {
+            let asked = Two {
+                reading,
+                store: &store,
+                main: &[0; 40],
+                fences: FENCES,
+                order: "AB",
+                starts: [start; 2],
+                turns: 2,
+            };
+            let (text, _) = two(&asked, &View { from: 9, ..View::LINES }).expect("right fences");
+            assert_eq!(told(&text), ["A", "B"].map(|letter| format!("{letter} SPENT AT {next}")));
         }
     }
 }

@@ -5,6 +5,7 @@ use crate::bits::{bit, with_bit};
 use crate::branch::{next_address, X6, X7};
 use crate::reading::Reading;
 use crate::registers::{source_a, source_b, A_SOURCE, DESTINATION};
+use crate::session::Fence;
 use crate::state::{State, R, S};
 use crate::status::STATUS;
 use crate::storage::{cu_modelled, Storage, ACTION, STORE};
@@ -62,14 +63,28 @@ pub fn not_modelled(reading: Reading, word: &Word) -> u8 {
     missing.map_or(0, |(place, _)| *place as u8 + 1)
 }
 
-/// One cycle of a store under a reading. Unless it ran, nothing has changed.
+/// One cycle of a store under a reading: its fence is round all of main storage. Unless it ran, nothing has changed.
 pub fn cycle(reading: Reading, store: &[u64], main: &mut [u8], local: &mut [u8], state: &mut State) -> Answer {
-    cycle_with(reading, adder::correct_by_rule, store, main, local, state)
+    let all = Fence::round(main);
+    cycle_in(reading, store, main, local, state, all)
 }
 
-/// The same, with decimal sums corrected by the table.
+/// The same in a fence: 11 is by it too.
+pub fn cycle_in(
+    reading: Reading,
+    store: &[u64],
+    main: &mut [u8],
+    local: &mut [u8],
+    state: &mut State,
+    fence: Fence,
+) -> Answer {
+    cycle_with(reading, adder::correct_by_rule, store, main, local, state, fence)
+}
+
+/// The plain cycle, with decimal sums corrected by the table.
 pub fn cycle_by_table(reading: Reading, store: &[u64], main: &mut [u8], local: &mut [u8], state: &mut State) -> Answer {
-    cycle_with(reading, adder::correct_by_table, store, main, local, state)
+    let all = Fence::round(main);
+    cycle_with(reading, adder::correct_by_table, store, main, local, state, all)
 }
 
 fn cycle_with(
@@ -79,10 +94,11 @@ fn cycle_with(
     main: &mut [u8],
     local: &mut [u8],
     state: &mut State,
+    fence: Fence,
 ) -> Answer {
-    let turn = checked_word(reading, store, main, local, state)
-        .and_then(|word| steps(reading, correct, &word, &mut Storage { main, local }, state));
-    match turn {
+    let next = checked_word(reading, store, main, local, state)
+        .and_then(|word| steps(reading, correct, &word, &mut Storage { main, local, fence }, state));
+    match next {
         Ok(next) => {
             *state = next;
             Answer::Ran
@@ -91,7 +107,8 @@ fn cycle_with(
     }
 }
 
-fn refused(number: Refusal) -> Answer {
+/// By a number other than 10.
+pub(crate) fn refused(number: Refusal) -> Answer {
     Answer::Refused { number, field: 0 }
 }
 

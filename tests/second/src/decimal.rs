@@ -3,6 +3,7 @@
 
 use crate::bits::{both_decimal, from_digits, high_digit, low_digit};
 use crate::cycle::storage_fits;
+use crate::session::Fence;
 use crate::Refusal;
 
 #[derive(Clone, Copy, Debug, PartialEq, Eq)]
@@ -14,7 +15,8 @@ pub enum Outcome {
 
 pub const LONGEST_FIELD: usize = 16;
 
-/// Two packed unsigned fields of one length, each start its lowest address. Only a sum changes storage.
+/// Two packed unsigned fields of one length, each start its lowest address. Only a sum changes storage. The fence is round all
+/// of main storage, which 1 has found not empty: 32 is not given.
 pub fn add_decimal(
     main: &mut [u8],
     local: &[u8],
@@ -23,7 +25,21 @@ pub fn add_decimal(
     length: usize,
     carry_in: bool,
 ) -> Outcome {
-    let (augend, addend) = match numbers(main, local, [first, second], length, value) {
+    let all = Fence::round(main);
+    add_decimal_in(main, local, first, second, length, carry_in, all)
+}
+
+/// The same in a fence.
+pub fn add_decimal_in(
+    main: &mut [u8],
+    local: &[u8],
+    first: usize,
+    second: usize,
+    length: usize,
+    carry_in: bool,
+    fence: Fence,
+) -> Outcome {
+    let (augend, addend) = match numbers(main, local, fence, [first, second], length, value) {
         Ok(Some(numbers)) => numbers,
         Ok(None) => return Outcome::BadDigit,
         Err(number) => return Outcome::Refused { number },
@@ -39,24 +55,24 @@ pub fn add_decimal(
 pub(crate) fn numbers<T>(
     main: &[u8],
     local: &[u8],
+    fence: Fence,
     [first, second]: [usize; 2],
     length: usize,
     value: fn(&[u8]) -> Option<T>,
 ) -> Result<Option<(T, T)>, Refusal> {
-    match refusal(main, local, first, second, length) {
+    match refusal(main, local, fence, first, second, length) {
         0 => Ok(value(&main[first..first + length]).zip(value(&main[second..second + length]))),
         number => Err(number),
     }
 }
 
-/// The first of 1, 12, 13, 14 that is given, or 0.
-fn refusal(main: &[u8], local: &[u8], first: usize, second: usize, length: usize) -> Refusal {
-    // A start may be as large as the machine's numbers go.
-    let outside = |start: usize| start.checked_add(length).is_none_or(|end| end > main.len());
+/// The first of 1, 32, 12, 13, 14 that is given, or 0.
+fn refusal(main: &[u8], local: &[u8], fence: Fence, first: usize, second: usize, length: usize) -> Refusal {
     let checks = [
         (1, !storage_fits(main, local)),
+        (32, !fence.stands_in(main.len())),
         (12, !(1..=LONGEST_FIELD).contains(&length)),
-        (13, outside(first) || outside(second)),
+        (13, !fence.holds(first, length) || !fence.holds(second, length)),
         (14, first != second && first.abs_diff(second) < length),
     ];
     checks.iter().find(|(_, given)| *given).map_or(0, |(number, _)| *number)

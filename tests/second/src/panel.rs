@@ -2,10 +2,11 @@
 
 use crate::adder::Work;
 use crate::cycle::{cycle, next_work, Answer};
-use crate::decimal::{add_decimal, Outcome};
+use crate::decimal::Outcome;
 use crate::reading::Reading;
 use crate::run::{run, Ending};
-use crate::shipped::{self, run_shipped, APSP, SHIPPED};
+use crate::session::{self, Fence};
+use crate::shipped::{self, APSP, SHIPPED};
 use crate::state::State;
 use crate::word::{self, Fields};
 use crate::{apsp, deck, signed, trap, Refusal};
@@ -74,11 +75,12 @@ fn reading_by(code: u8) -> Reading {
     }
 }
 
-pub fn one_cycle(reading: u8, store: &[u64], main: &mut [u8], local: &mut [u8], record: &mut [u8]) -> u64 {
+/// What `advance` answers of the record's state, which is written where it ran; 19 comes first.
+fn stepped(record: &mut [u8], advance: impl FnOnce(&mut State) -> Answer) -> u64 {
     let Some(mut state) = loaded(record) else {
         return coded(REFUSED, 19, 0);
     };
-    match cycle(reading_by(reading), store, main, local, &mut state) {
+    match advance(&mut state) {
         Answer::Ran => {
             save(&state, record);
             coded(RAN, 0, 0)
@@ -86,6 +88,32 @@ pub fn one_cycle(reading: u8, store: &[u64], main: &mut [u8], local: &mut [u8], 
         Answer::Stopped => coded(STOPPED, 0, 0),
         Answer::Refused { number, field } => coded(REFUSED, number, field),
     }
+}
+
+pub fn one_cycle(reading: u8, store: &[u64], main: &mut [u8], local: &mut [u8], record: &mut [u8]) -> u64 {
+    stepped(record, |state| cycle(reading_by(reading), store, main, local, state))
+}
+
+/// A fence by its start and its end, as the header has them one after the other.
+fn fence([start, end]: [usize; 2]) -> Fence {
+    Fence { start, end }
+}
+
+pub fn open(main_len: usize, a: [usize; 2], b: [usize; 2]) -> u64 {
+    numbered(session::open(main_len, fence(a), fence(b)))
+}
+
+pub fn turn(
+    reading: u8,
+    store: &[u64],
+    main: &mut [u8],
+    local: &mut [u8],
+    record: &mut [u8],
+    own: [usize; 2],
+    other: [usize; 2],
+) -> u64 {
+    let reading = reading_by(reading);
+    stepped(record, |state| session::turn(reading, store, main, local, state, fence(own), fence(other)))
 }
 
 pub fn run_for(reading: u8, store: &[u64], main: &mut [u8], local: &mut [u8], record: &mut [u8], budget: u32) -> u64 {
@@ -188,17 +216,28 @@ fn added(outcome: Result<Option<bool>, Refusal>, count: impl FnOnce() -> u64) ->
     }
 }
 
-/// The sum is by whole numbers; the count is that of this engine's own run of the shipped words, on a copy.
+/// In a fence round all of main storage.
 pub fn add(main: &mut [u8], local: &mut [u8], first: usize, second: usize, length: usize, carry_in: u8) -> u64 {
-    let carry = carry_in != 0;
-    let (mut same_main, mut same_local) = (main.to_vec(), local.to_vec());
-    let outcome = match add_decimal(main, local, first, second, length, carry) {
+    let all = [0, main.len()];
+    add_in(main, local, first, second, length, carry_in, all)
+}
+
+pub fn add_in(
+    main: &mut [u8],
+    local: &mut [u8],
+    first: usize,
+    second: usize,
+    length: usize,
+    carry_in: u8,
+    within: [usize; 2],
+) -> u64 {
+    let (outcome, count) = session::add_counted(main, local, first, second, length, carry_in != 0, fence(within));
+    let outcome = match outcome {
         Outcome::Summed { carry } => Ok(Some(carry)),
         Outcome::BadDigit => Ok(None),
         Outcome::Refused { number } => Err(number),
     };
-    let from = shipped::start(first as u16, second as u16, length as u8, carry);
-    added(outcome, || run_shipped(&mut same_main, &mut same_local, from).1)
+    added(outcome, || count)
 }
 
 /// The sum or difference is by whole numbers too; the count is by the paper's table, of storage as it was before.

@@ -1,7 +1,8 @@
 //! A run: cycles until stop, refusal or budget.
 
-use crate::cycle::{cycle, sizes_fit, Answer};
+use crate::cycle::{cycle_in, sizes_fit, Answer};
 use crate::reading::Reading;
+use crate::session::Fence;
 use crate::state::State;
 use crate::Refusal;
 
@@ -16,9 +17,21 @@ pub enum Ending {
     Spent,
 }
 
+impl Ending {
+    /// That of a run whose last cycle answers so.
+    pub fn with(last: Answer) -> Ending {
+        match last {
+            Answer::Ran => Ending::Spent,
+            Answer::Stopped => Ending::Stopped,
+            Answer::Refused { number, field } => Ending::Refused { number, field },
+        }
+    }
+}
+
 pub const MOST_BUDGET: u64 = 1_000_000;
 
-/// The ending and how many cycles ran; the state and storage are those after that many.
+/// The ending and how many cycles ran; the state and storage are those after that many. The fence is round all of main
+/// storage.
 pub fn run(
     reading: Reading,
     store: &[u64],
@@ -27,6 +40,20 @@ pub fn run(
     state: &mut State,
     budget: u64,
 ) -> (Ending, u64) {
+    let all = Fence::round(main);
+    run_in(reading, store, main, local, state, budget, all)
+}
+
+/// The same in a fence, which is not checked here.
+pub fn run_in(
+    reading: Reading,
+    store: &[u64],
+    main: &mut [u8],
+    local: &mut [u8],
+    state: &mut State,
+    budget: u64,
+    fence: Fence,
+) -> (Ending, u64) {
     if !sizes_fit(store, main, local) {
         return (Ending::Refused { number: 1, field: 0 }, 0);
     }
@@ -34,10 +61,9 @@ pub fn run(
         return (Ending::Refused { number: 22, field: 0 }, 0);
     }
     for count in 0..budget {
-        match cycle(reading, store, main, local, state) {
-            Answer::Ran => {}
-            Answer::Stopped => return (Ending::Stopped, count),
-            Answer::Refused { number, field } => return (Ending::Refused { number, field }, count),
+        let answer = cycle_in(reading, store, main, local, state, fence);
+        if answer != Answer::Ran {
+            return (Ending::with(answer), count);
         }
     }
     (Ending::Spent, budget)

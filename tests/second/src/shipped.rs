@@ -4,7 +4,8 @@ use crate::apsp;
 use crate::bits::{bit, with_bit};
 use crate::decimal::Outcome;
 use crate::reading::Reading;
-use crate::run::{run, Ending};
+use crate::run::{run_in, Ending};
+use crate::session::Fence;
 use crate::state::{State, I, J, L, S, U, V};
 
 /// The shipped words, as crates/decimal has them.
@@ -120,7 +121,13 @@ fn with_status(first: u16, second: u16, length: u8, status: u8) -> State {
 
 /// The run of the shipped words: whether it summed, with which carry, and its count of cycles.
 pub fn run_shipped(main: &mut [u8], local: &mut [u8], start: State) -> (Outcome, u64) {
-    let (at, s3, count) = stopped(&SHIPPED, main, local, start);
+    let all = Fence::round(main);
+    run_shipped_in(main, local, start, all)
+}
+
+/// The same in a fence that holds both fields.
+pub fn run_shipped_in(main: &mut [u8], local: &mut [u8], start: State, fence: Fence) -> (Outcome, u64) {
+    let (at, s3, count) = stopped(&SHIPPED, main, local, start, fence);
     match at {
         SUMMED_AT => (Outcome::Summed { carry: s3 }, count),
         _ => (Outcome::BadDigit, count),
@@ -129,7 +136,8 @@ pub fn run_shipped(main: &mut [u8], local: &mut [u8], start: State) -> (Outcome,
 
 /// The run of AP and SP: whether it is done, with which overflow, and its count of cycles.
 pub fn run_apsp(main: &mut [u8], local: &mut [u8], start: State) -> (apsp::Outcome, u64) {
-    let (at, s3, count) = stopped(&APSP, main, local, start);
+    let all = Fence::round(main);
+    let (at, s3, count) = stopped(&APSP, main, local, start, all);
     if at == DONE_AT {
         return (apsp::Outcome::Done { overflow: s3 }, count);
     }
@@ -144,9 +152,9 @@ pub fn bound(start: &State) -> u64 {
 
 /// The word that a run within the bound stops at, S3 there, and its count of cycles. "The shipped programs are run under
 /// basic."
-fn stopped(words: &[u64], main: &mut [u8], local: &mut [u8], start: State) -> (u16, bool, u64) {
+fn stopped(words: &[u64], main: &mut [u8], local: &mut [u8], start: State, fence: Fence) -> (u16, bool, u64) {
     let mut state = start;
-    let (ending, count) = run(Reading::Basic, words, main, local, &mut state, bound(&start));
+    let (ending, count) = run_in(Reading::Basic, words, main, local, &mut state, bound(&start), fence);
     assert_eq!(ending, Ending::Stopped);
     (state.wx, bit(state.registers[S], 3), count)
 }

@@ -1,10 +1,11 @@
-//! Storage: reads and writes of main and local storage under the allow-write latch.
+//! Storage: reads and writes of main and local storage under the allow-write latch, of main storage in a fence.
 //!
 //! An action takes the state as it stands once an arriving byte has entered R (`now`) and changes `next`.
 //! It refuses, by 11, before storage has changed, and the caller then throws `next` away.
 
 use crate::bits::bit;
 use crate::branch::Condition;
+use crate::session::Fence;
 use crate::state::{State, G, I, J, L, M, N, R, T, U, V};
 use crate::word::{Word, CM, CU};
 use crate::Refusal;
@@ -12,6 +13,8 @@ use crate::Refusal;
 pub struct Storage<'a> {
     pub main: &'a mut [u8],
     pub local: &'a mut [u8],
+    /// What may be read and written of main storage; local storage has none.
+    pub fence: Fence,
 }
 
 pub type Action = fn(&mut Storage, &Word, &State, &mut State) -> Result<(), Refusal>;
@@ -52,7 +55,8 @@ fn place<'a>(storage: &'a mut Storage, at: &State) -> Result<&'a mut u8, Refusal
         Ok(&mut storage.local[n])
     } else {
         let address = usize::from(at.registers[M]) * 256 + n;
-        storage.main.get_mut(address).ok_or(11)
+        let fence = storage.fence;
+        storage.main.get_mut(address).filter(|_| fence.contains(address)).ok_or(11)
     }
 }
 

@@ -7,12 +7,13 @@ use std::fs;
 use std::path::{Path, PathBuf};
 
 /// What promises less than the whole answer; docs/PROMISES.md says why.
-const NOT_WHOLE: [&str; 51] = [
+const NOT_WHOLE: [&str; 54] = [
     "input:read",
     "board:begin",
     "board:end",
     "board:go",
     "board:broken_run",
+    "board:turns",
     "board:flush",
     "board:ready",
     "board:put",
@@ -22,6 +23,7 @@ const NOT_WHOLE: [&str; 51] = [
     "board:refused",
     "board:refused_number",
     "board:refused_field",
+    "board:refused_fences",
     "board:missed",
     "board:asked",
     "board:next",
@@ -31,6 +33,7 @@ const NOT_WHOLE: [&str; 51] = [
     "board:read",
     "board:add",
     "board:run",
+    "board:two",
     "agree:at_most",
     "agree:next",
     "agree:mix",
@@ -62,9 +65,10 @@ const NOT_WHOLE: [&str; 51] = [
 ];
 
 /// What the program `board` promises of all that it shows but the buffer, each by the definition that its contract cites.
-const SHOWN: [(&str, &str); 6] = [
+const SHOWN: [(&str, &str); 7] = [
     ("go", "≡ runOf budget "),
     ("broken_run", "BrokenInto budget "),
+    ("turns", "≡ afterTurns (turnsOf (rules .turns) "),
     ("answered", "≡ fromRun done (runOf (bound size) "),
     ("summed", "≡ answerOf operation "),
     ("lay_out", "≡ laidOut size "),

@@ -2,33 +2,13 @@
 
 mod common;
 
-use common::{draw_bytes, Bench, STOP};
+use common::{draw_bytes, draw_field, schoolbook, Bench, STOP};
 use second::decimal::{add_decimal, Outcome};
 use second::random::Random;
 use second::run::Ending;
 use second::state::{I, J, L, S, U, V};
 
 const LOCAL: [u8; 256] = [0x5C; 256];
-
-fn draw_field(random: &mut Random, length: usize) -> Vec<u8> {
-    // Nines often, so that carries run far.
-    let mut digit = || if random.below(2) == 0 { 9 } else { random.below(10) as u8 };
-    (0..length).map(|_| digit() * 16 + digit()).collect()
-}
-
-/// Sums digit by digit from the low end.
-fn schoolbook(a: &[u8], b: &[u8], carry_in: bool) -> (Vec<u8>, bool) {
-    let mut carry = u8::from(carry_in);
-    let mut sum = vec![0; a.len()];
-    for n in (0..a.len()).rev() {
-        for shift in [0, 4] {
-            let total = (a[n] >> shift & 15) + (b[n] >> shift & 15) + carry;
-            sum[n] |= (total % 10) << shift;
-            carry = total / 10;
-        }
-    }
-    (sum, carry == 1)
-}
 
 fn refused(number: u8) -> Outcome {
     Outcome::Refused { number }

@@ -2,7 +2,7 @@
 
 mod common;
 
-use common::{Bench, Codes, P, STOP};
+use common::{Bench, Codes, P, PA_BIT, PC_BIT, PK_BIT, PN_BIT, PS_BIT, STOP, TO_CU_2, TO_CU_3};
 use second::cycle::Answer;
 use second::run::Ending;
 use second::state::{G, I, J, L, M, N, R, T, U, V};
@@ -11,13 +11,6 @@ use second::word::{build, fault};
 fn refused(number: u8) -> Ending {
     Ending::Refused { number, field: 0 }
 }
-
-/// Places of single bits, from the low end of the word.
-const PC_BIT: u64 = 1;
-const PS_BIT: u64 = 1 << 20;
-const PK_BIT: u64 = 1 << 21;
-const PA_BIT: u64 = 1 << 47;
-const PN_BIT: u64 = 1 << 48;
 
 #[test]
 fn one_by_sizes() {
@@ -114,10 +107,6 @@ fn the_first_of_several_faults_is_given() {
         }
     }
 }
-
-/// What makes CU 2, K to W, and 3, a return, of a CU 0 under a PS that stays right.
-const TO_CU_2: u64 = 1 << 35 | PS_BIT;
-const TO_CU_3: u64 = 3 << 34;
 
 /// A word of CL 2 and of another CU, which no packing gives: CU is turned by hand.
 fn module_and(turned: u64) -> u64 {

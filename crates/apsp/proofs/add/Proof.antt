@@ -5,6 +5,7 @@ use native.Mathlib.Omega.{arith}
 use denote.Ref.{now}
 use lib.ListN.{getD}
 use Rattle.codes.specs.declared.Reading.the-variants.{Basic}
+use Rattle.storage.specs.Storage.{whole}
 use Rattle.run.specs.Run.{runOf}
 use Rattle.decimal.specs.Entry.{startWith, bound, entryOf}
 use Rattle.apsp.specs.Entry.{DONE, signedOf}
@@ -26,7 +27,7 @@ returns c =
     let a = s .before .before .before .args in
     with-promise (now (a .main)) (now (a .local)) (a .first) (a .second) (a .length) (a .subtract) (bytes (s .before .before)) _ _ _
     (e .entry .ensures
-    ∙ (λ i. entryOf DONE (runOf (bound (a .length)) Basic (w .words .ensures i) (now (a .main)) (now (a .local)) (startWith (a .first) (a .second) (a .length) (s .with-bit .ensures i))) (now (a .main)) (now (a .local)) (a .first) (a .second) (a .length)))
+    ∙ (λ i. entryOf DONE whole (runOf (bound (a .length)) Basic (w .words .ensures i) (now (a .main)) (now (a .local)) (startWith (a .first) (a .second) (a .length) (s .with-bit .ensures i))) (now (a .main)) (now (a .local)) (a .first) (a .second) (a .length)))
 
 pub add-spec : {M : Type 1} → statement M
 add-spec = tie.close (tie.spec (λ c κs. tt) (λ c κs. tt) (λ c. search needs) (λ c κs. tt) (λ c. search needs) (λ c. search needs) returns)

@@ -1,5 +1,6 @@
 //! Single cycles, and the work that would be done in each: drawn words, states and storage sizes.
 
+use super::count::of_cycle;
 use super::draw::{bits, drawn_state, near, reading_of, word_for, Lent, SEVEN};
 use super::{digest_line, drawn_bytes, joined, mix_bytes, mix_state};
 use crate::adder::Work;
@@ -56,11 +57,7 @@ fn answer(digest: u64, trial: &Trial, store: &[u64], storages: &mut Storages) ->
     let (main, local) = (&mut storages.main[..trial.lent.main], &mut storages.local[..trial.lent.local]);
     let mut state = trial.state;
     let answer = cycle(trial.reading, &store[..trial.lent.words], main, local, &mut state);
-    let (number, field) = match answer {
-        Answer::Ran => (RAN, 0),
-        Answer::Stopped => (STOPPED, 0),
-        Answer::Refused { number, field } => (usize::from(number), field),
-    };
+    let (number, field) = of_cycle(answer);
     let n = usize::from(trial.state.registers[N]);
     let at = usize::from(trial.state.registers[M]) * 256 + n;
     let byte = |bytes: &[u8], at: usize| u64::from(bytes.get(at).copied().unwrap_or(0));
@@ -78,10 +75,6 @@ fn mix_work(digest: u64, work: Option<Work>) -> u64 {
     let bytes = [w.a_chosen, w.a_gated, w.b_chosen, w.b_gated, w.b_entering, carry_in, w.before, w.after];
     mix(mix(digest, 1), joined(&bytes))
 }
-
-// Where an answer is counted; a refusal is at its number.
-const RAN: usize = 100;
-const STOPPED: usize = 101;
 
 #[derive(Default)]
 struct Counts {

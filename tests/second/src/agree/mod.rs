@@ -4,12 +4,14 @@
 
 mod adder;
 mod apsp;
+mod count;
 mod cycle;
 mod decimal;
 mod deck;
 mod draw;
 mod fields;
 mod run;
+mod session;
 mod signed;
 mod trap;
 mod word;
@@ -20,13 +22,14 @@ use crate::state::State;
 /// A program's name, and what computes its text.
 pub type Program = (&'static str, fn() -> String);
 
-pub const PROGRAMS: [Program; 9] = [
+pub const PROGRAMS: [Program; 10] = [
     ("agree_adder", adder::text),
     ("agree_apsp", apsp::text),
     ("agree_cycle", cycle::text),
     ("agree_decimal", decimal::text),
     ("agree_deck", deck::text),
     ("agree_run", run::text),
+    ("agree_session", session::text),
     ("agree_signed", signed::text),
     ("agree_trap", trap::text),
     ("agree_word", word::text),

@@ -1,10 +1,11 @@
 //! Runs: drawn stores, states, sizes and budgets.
 
+use super::count::{of_run, Counts, SPENT, STOPPED};
 use super::draw::{bits, drawn_state, modelled, packed, reading_of, word_for, Lent};
 use super::{digest_line, drawn_bytes, mix_bytes, mix_state};
 use crate::random::{mix, Random};
 use crate::reading::Reading;
-use crate::run::{run, Ending, MOST_BUDGET};
+use crate::run::{run, MOST_BUDGET};
 use crate::state::State;
 use crate::word::index_of;
 
@@ -56,14 +57,10 @@ pub fn store_word(reading: Reading, random: &mut Random, rate: u64, address: u32
     }
 }
 
-// Where an ending is counted; a refusal is at its number.
-const STOPPED: usize = 101;
-const SPENT: usize = 102;
-
 pub fn text() -> String {
     let (mut main, mut local) = (drawn_bytes(29, 65537), drawn_bytes(31, 257));
     let (mut random, mut digest, mut cycles, mut compatibility) = (Random::new(23), 5, 0, 0);
-    let (mut counts, mut text) = ([0u32; 103], String::new());
+    let (mut counts, mut text) = (Counts::new(), String::new());
     for k in 1..=1000 {
         let trial = drawn(&mut random);
         let [filled, read] = trial.readings;
@@ -71,24 +68,18 @@ pub fn text() -> String {
         let (main, local) = (&mut main[..trial.lent.main], &mut local[..trial.lent.local]);
         let mut state = trial.state;
         let (ending, count) = run(read, &store[..trial.lent.words], main, local, &mut state, trial.budget);
-        let (number, field) = match ending {
-            Ending::Stopped => (STOPPED, 0),
-            Ending::Refused { number, field } => (usize::from(number), field),
-            Ending::Spent => (SPENT, 0),
-        };
-        counts[number] += 1;
         cycles += count;
         compatibility += u32::from(read == Reading::Compatibility);
-        digest = mix(digest, number as u64 * 256 + u64::from(field));
+        digest = mix(digest, counts.count_with(of_run(ending)));
         digest = mix_state(mix(digest, count), &state);
         digest = mix_bytes(mix_bytes(digest, main), local);
         if k % 100 == 0 {
             text += &digest_line(k, digest);
         }
     }
-    text += &format!("stopped {}\nspent {}\n", counts[STOPPED], counts[SPENT]);
+    text += &(counts.line("stopped", STOPPED) + &counts.line("spent", SPENT));
     for number in (1..12).chain([22]) {
-        text += &format!("refused {number} {}\n", counts[number]);
+        text += &counts.refused(number);
     }
     text + &format!("cycles {cycles}\ncompatibility {compatibility}\n")
 }

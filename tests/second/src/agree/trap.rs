@@ -1,44 +1,20 @@
 //! Traps and returns: calls alone, return words beside every CM, CH and CL, and runs that traps break into.
 
+use super::count::{of_cycle, of_run, Counts, RAN, SPENT, STOPPED, TAKEN};
 use super::draw::{bits, drawn_state, modelled, packed, reading_of, BOTH_OF_CU};
 use super::run::{store_word, RATES};
 use super::{digest_line, drawn_bytes, mix_bytes, mix_state};
-use crate::cycle::{cycle, Answer};
+use crate::cycle::cycle;
 use crate::random::{mix, Random};
 use crate::reading::Reading;
-use crate::run::{run, Ending};
+use crate::run::run;
 use crate::state::State;
 use crate::trap::trap;
 use crate::word::{index_of, with_right_pk, Fields};
 
-// Where an answer is counted; a refusal is at its number.
-const TAKEN: usize = 0;
-const RAN: usize = 100;
-const STOPPED: usize = 101;
-const SPENT: usize = 102;
-
-/// How often each number was the answer.
-struct Counts([u32; 103]);
-
-impl Counts {
-    fn new() -> Counts {
-        Counts([0; 103])
-    }
-
-    /// An answer's number, counted.
-    fn count(&mut self, number: usize) -> u64 {
-        self.0[number] += 1;
-        number as u64
-    }
-
-    fn refused(&self, number: usize) -> String {
-        format!("refused {number} {}\n", self.0[number])
-    }
-
-    /// What the calls came to.
-    fn traps(&self) -> String {
-        format!("taken {}\n{}{}", self.0[TAKEN], self.refused(29), self.refused(30))
-    }
+/// What the calls came to.
+fn traps(counts: &Counts) -> String {
+    counts.line("taken", TAKEN) + &counts.refused(29) + &counts.refused(30)
 }
 
 /// What goes on from part to part.
@@ -94,7 +70,7 @@ fn calls(course: &mut Course) -> String {
             text += &digest_line(k, course.digest);
         }
     }
-    text + &counts.traps()
+    text + &traps(&counts)
 }
 
 // ---- return words
@@ -127,12 +103,8 @@ fn return_at(reading: Reading, course: &mut Course, store: &mut [u64], place: Pl
     let wx = (f % 4096) as u16;
     store[usize::from(wx)] = return_word(modelled(reading, a, b), place, u32::from(wx));
     let mut state = State { owed: place.3, ..drawn_state(c, e, wx) };
-    let (number, field) = match cycle(reading, store, &mut course.main, &mut course.local, &mut state) {
-        Answer::Ran => (RAN, 0),
-        Answer::Stopped => (STOPPED, 0),
-        Answer::Refused { number, field } => (usize::from(number), field),
-    };
-    course.mix(counts.count(number) * 256 + u64::from(field));
+    let answer = cycle(reading, store, &mut course.main, &mut course.local, &mut state);
+    course.mix(counts.count_with(of_cycle(answer)));
     course.mix_state(&state);
 }
 
@@ -147,7 +119,7 @@ fn return_words(course: &mut Course) -> String {
         course.mix_storages();
         text += &digest_line(round * places().count() as u64, course.digest);
     }
-    text += &format!("ran {}\n", counts.0[RAN]);
+    text += &counts.line("ran", RAN);
     text + &[8, 10, 11].map(|number| counts.refused(number)).concat()
 }
 
@@ -163,10 +135,10 @@ struct Broken {
 
 impl Broken {
     fn report(&self) -> String {
-        let Broken { endings: Counts(endings), traps, closed, cycles } = self;
-        let refused: u32 = endings[..RAN].iter().sum();
-        let endings = format!("stopped {}\nspent {}\nrefused {refused}\n", endings[STOPPED], endings[SPENT]);
-        endings + &traps.traps() + &format!("closed {closed}\ncycles {cycles}\n")
+        let Broken { endings, traps: called, closed, cycles } = self;
+        let refused: u32 = endings.0[..RAN].iter().sum();
+        let ended = endings.line("stopped", STOPPED) + &endings.line("spent", SPENT) + &format!("refused {refused}\n");
+        ended + &traps(called) + &format!("closed {closed}\ncycles {cycles}\n")
     }
 }
 
@@ -175,12 +147,7 @@ fn piece(reading: Reading, course: &mut Course, store: &[u64], state: &mut State
     let x = course.random.next();
     let owed = state.owed;
     let (ending, count) = run(reading, store, &mut course.main, &mut course.local, state, x % 64);
-    let (number, field) = match ending {
-        Ending::Stopped => (STOPPED, 0),
-        Ending::Refused { number, field } => (usize::from(number), field),
-        Ending::Spent => (SPENT, 0),
-    };
-    course.mix(broken.endings.count(number) * 256 + u64::from(field));
+    course.mix(broken.endings.count_with(of_run(ending)));
     course.mix(count);
     course.mix_state(state);
     broken.closed += u32::from(owed && !state.owed);

@@ -1,6 +1,8 @@
 //! A machine on the bench, and words drawn by the generator.
 #![allow(dead_code)]
 
+pub mod fences;
+
 use second::cycle::{cycle, not_modelled, Answer, LOCAL_BYTES, MOST_MAIN, MOST_WORDS};
 use second::random::Random;
 use second::reading::Reading;
@@ -17,6 +19,17 @@ pub const P_FIELDS: Codes = &[("CL", 1), ("CM", 1), ("CA", 14), ("CB", 3), ("CK"
 
 /// A word that stops: CA 0 is not modelled, so it also shows that stop comes before 10.
 pub const STOP: Codes = &[("CF", 4)];
+
+/// Places of single bits, from the low end of the word.
+pub const PC_BIT: u64 = 1;
+pub const PS_BIT: u64 = 1 << 20;
+pub const PK_BIT: u64 = 1 << 21;
+pub const PA_BIT: u64 = 1 << 47;
+pub const PN_BIT: u64 = 1 << 48;
+
+/// What makes CU 2, K to W, and 3, a return, of a CU 0 under a PS that stays right.
+pub const TO_CU_2: u64 = 1 << 35 | PS_BIT;
+pub const TO_CU_3: u64 = 3 << 34;
 
 #[derive(Clone, Debug, PartialEq)]
 pub struct Bench {
@@ -194,6 +207,26 @@ pub fn draw_bytes(random: &mut Random, count: usize) -> Vec<u8> {
     (0..count).map(|_| random.next() as u8).collect()
 }
 
+pub fn draw_field(random: &mut Random, length: usize) -> Vec<u8> {
+    // Nines often, so that carries run far.
+    let mut digit = || if random.below(2) == 0 { 9 } else { random.below(10) as u8 };
+    (0..length).map(|_| digit() * 16 + digit()).collect()
+}
+
+/// Sums digit by digit from the low end.
+pub fn schoolbook(a: &[u8], b: &[u8], carry_in: bool) -> (Vec<u8>, bool) {
+    let mut carry = u8::from(carry_in);
+    let mut sum = vec![0; a.len()];
+    for n in (0..a.len()).rev() {
+        for shift in [0, 4] {
+            let total = (a[n] >> shift & 15) + (b[n] >> shift & 15) + carry;
+            sum[n] |= (total % 10) << shift;
+            carry = total / 10;
+        }
+    }
+    (sum, carry == 1)
+}
+
 /// A state of which every part is drawn, at an address of the store.
 pub fn draw_state(random: &mut Random, words: usize) -> State {
     let mut bytes: [u8; RECORD] = std::array::from_fn(|_| random.next() as u8);
@@ -303,6 +336,11 @@ pub fn lent_to_go_on(random: &mut Random) -> Lent {
 pub fn bench_of(Lent { store, main, local, state }: Lent) -> Bench {
     let state = state.first_chunk().map(State::from_bytes).unwrap_or_default();
     Bench { store, main, local, state, reading: Reading::Basic }
+}
+
+/// The same back.
+pub fn lent_of(Bench { store, main, local, state, .. }: Bench) -> Lent {
+    Lent { store, main, local, state: state.to_bytes().to_vec() }
 }
 
 /// What a run is lent, of any sizes and words, or such that it goes on.

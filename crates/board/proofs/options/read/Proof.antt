@@ -7,10 +7,10 @@ use Rattle.board.proofs.options.read.Statement.{statement}
 use Rattle.board.proofs.options.read.Tie as tie
 
 abbrev Inv-loop : tie.InvT-loop
-Inv-loop first registers count seen₀ o₀ at₀ t8 seen o at = length seen ≡ 17
+Inv-loop first registers count seen₀ o₀ at₀ seen o at = length seen ≡ 17
 
 abbrev μ-loop : tie.MeasureT-loop
-μ-loop first registers count seen₀ o₀ at₀ t8 seen o at = count - at
+μ-loop first registers count seen₀ o₀ at₀ seen o at = count - at
 
 pub read-spec : {M : Type 1} → statement M
 read-spec =
@@ -23,7 +23,6 @@ read-spec =
     (λ c. search needs)
     (λ c. search needs)
     (λ c κs. tt)
-    (λ c. search needs)
     (λ c. search needs)
     (λ c. search needs)
     (λ c. search needs)

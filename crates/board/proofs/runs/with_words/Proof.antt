@@ -30,5 +30,10 @@ with-words-spec =
     (λ c. search needs)
     part-main-end
     (λ c. search needs)
+    (λ c. search needs)
     (λ c κs. search needs)
+    (λ c. search needs)
+    (λ c. search needs)
+    (λ c κs. search needs)
+    (λ c. search needs)
     (λ c. search needs))

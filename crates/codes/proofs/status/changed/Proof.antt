@@ -1,5 +1,5 @@
 -- The row of CS. Assumes nothing.
-use Rattle.codes.proofs.Arms.{at-least}
+use Rattle.digits.proofs.Arms.{at-least}
 use lib.ListN.{List·getD-eq-default}
 use Rattle.codes.specs.Status.{statuses}
 use mathlib.Core.Path.{sym}

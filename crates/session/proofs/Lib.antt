@@ -1,0 +1,4 @@
+pub mod Turns
+pub mod Isolation
+pub mod Adding
+pub mod Promises

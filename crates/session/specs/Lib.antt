@@ -1,0 +1,5 @@
+pub mod Opening
+pub mod Turn
+pub mod Boards
+pub mod Isolation
+pub mod Adding
