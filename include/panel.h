@@ -113,9 +113,8 @@ uint64_t panel_sub_signed(uint8_t *main, size_t main_len, uint8_t *local, size_t
                           size_t first, size_t second, size_t length);
 
 /* Deck to words and words to deck: the count of words, or of bytes, that were written, and
- * 65536 * refusal number (the count is then 0). The old reader takes decks under the old check alone. */
+ * 65536 * refusal number (the count is then 0). */
 uint32_t panel_read_deck(const uint8_t *deck, size_t deck_len, uint64_t *words, size_t room);
-uint32_t panel_read_old_deck(const uint8_t *deck, size_t deck_len, uint64_t *words, size_t room);
 uint32_t panel_write_deck(const uint64_t *words, size_t count, uint8_t *deck, size_t room);
 
 /* The number of a signed field: 8 bytes, fifteen digits and a sign digit, A, C, E, F plus, B, D minus. 0, with the

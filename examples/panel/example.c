@@ -3,8 +3,8 @@
  * that addition on two panels, one with the single-cycle button and then the run button, one with the run button alone.
  * Then add with the six already in D, and see the lamp that tells. Then read a signed field, write its number back, and
  * read one whose sign is bad. Then subtract with signs. Then break into an addition by a trap. Then read two words as
- * basic and as compatibility. Then let two boards add on one core, each in its fence. Last, write a deck, exchange two
- * of its words, and read an old one. build.sh beside this file builds and runs it.
+ * basic and as compatibility. Last, let two boards add on one core, each in its fence. build.sh beside this file builds
+ * and runs it.
  */
 #include "../../include/panel.h"
 
@@ -243,34 +243,8 @@ static int one_core(void) {
     return of_a != PANEL_STOPPED;
 }
 
-/* The exchange of two words of a deck of one block, counted from 0. */
-static void exchange(uint8_t *deck, size_t one, size_t other) {
-    for (size_t k = 8; k < 16; k++) {
-        uint8_t byte = deck[8 * one + k];
-        deck[8 * one + k] = deck[8 * other + k];
-        deck[8 * other + k] = byte;
-    }
-}
-
-/* The shipped words as a deck: as it was written, with words 1 and 2 exchanged, and with the check of an old deck. */
-static int cards(void) {
-    static const uint8_t old_check[8] = {0x00, 0x64, 0xD8, 0xF6, 0x0D, 0x79, 0x6F, 0x06};
-    uint64_t words[64];
-    uint8_t deck[512];
-    uint32_t size = panel_write_deck(words, panel_shipped(words, 64), deck, sizeof deck);
-    if (size != sizeof deck) return 1;
-    printf("the deck of the shipped words: %u words\n", panel_read_deck(deck, size, words, 64));
-    exchange(deck, 1, 2);
-    printf("words 1 and 2 exchanged: refused by %u\n", panel_read_deck(deck, size, words, 64) / 65536);
-    exchange(deck, 1, 2);
-    for (size_t k = 0; k < 8; k++) deck[504 + k] = old_check[k];
-    printf("the old deck: refused by %u, ", panel_read_deck(deck, size, words, 64) / 65536);
-    printf("and by the old reader %u words\n", panel_read_old_deck(deck, size, words, 64));
-    return 0;
-}
-
 int main(void) {
     return one_cycle_of_p() != 0 || shipped_words() != 0 || two_buttons() != 0 || six_by_hand(0x47) != 0 ||
            six_by_hand(0xAD) != 0 || signed_fields() != 0 || with_signs() != 0 || broken_into() != 0 ||
-           two_readings() != 0 || one_core() != 0 || cards() != 0;
+           two_readings() != 0 || one_core() != 0;
 }

@@ -132,11 +132,10 @@ static uint64_t called(int call) {
         uint8_t carry_in = (uint8_t)number();
         return panel_add_decimal(main, count_of(0), local, count_of(1), first, second, length, carry_in);
     }
-    case 5:
-    case 20: {
+    case 5: {
         uint8_t *deck = slice(1);
         uint64_t *words = slice(8);
-        return (call == 5 ? panel_read_deck : panel_read_old_deck)(deck, count_of(0), words, count_of(1));
+        return panel_read_deck(deck, count_of(0), words, count_of(1));
     }
     case 6: {
         uint64_t *words = slice(8);

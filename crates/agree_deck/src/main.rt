@@ -1,5 +1,4 @@
-// Decks against tests/second: written, some of them under the old check, damaged in each part, read by both readers with rooms too
-// small, exact and larger, and listed.
+// Decks against tests/second: written, damaged in each part, read with rooms too small, exact and larger, and listed.
 ghost use Rattle.std.specs.Prelude.{◌≤◌};
 
 use deck::{ReadIn, Writing};
@@ -148,51 +147,12 @@ fn raise(deck: &mut [u8], at: usize, v: u64) {
     put_group(deck, at, std::num::wrapping_add_u64(group(deck, at), v));
 }
 
-// The group at `at` with the bits of the mask turned.
-fn turn_group(deck: &mut [u8], at: usize, mask: u64) {
-    put_group(deck, at, group(deck, at) ^ mask);
-}
-
-// Two groups in each other's place.
-fn exchange(deck: &mut [u8], one: usize, other: usize) {
-    let first = group(deck, one);
-    let second = group(deck, other);
-    put_group(deck, one, second);
-    put_group(deck, other, first);
-}
-
-// Where group `k` of the block at `at` stands.
-fn group_at(at: usize, k: usize) -> usize {
-    if 100000 < at {
-        return at;
-    }
-    if 63 < k {
-        return at;
-    }
-    at + k * 8
-}
-
-// The check of the block at `at`: of an old deck the first total, else the second.
-fn check_of(old: bool, deck: &[u8], at: usize) -> u64 {
-    let mut first = 0u64;
-    let mut second = 0u64;
-    for k in 0..63usize {
-        first = std::num::wrapping_add_u64(first, group(deck, group_at(at, k)));
-        second = std::num::wrapping_add_u64(second, first);
-    }
-    if old { first } else { second }
-}
-
-fn mend(old: bool, deck: &mut [u8], at: usize) {
-    let check = check_of(old, deck, at);
-    put_group(deck, group_at(at, 63), check);
-}
-
-// So many blocks under the old check.
-fn age(deck: &mut [u8], blocks: usize) {
-    for b in 0..blocks {
-        mend(true, deck, b % 100 * 512);
-    }
+// The group at `at` with the bits of the mask turned, and the check at `check` made to hold again.
+fn exchange(deck: &mut [u8], at: usize, check: usize, mask: u64) {
+    let old = group(deck, at);
+    let new = old ^ mask;
+    put_group(deck, at, new);
+    raise(deck, check, std::num::wrapping_sub_u64(new, old));
 }
 
 // Where a byte is turned, in a block: anywhere, in the number, the count, the reserved bytes or the check.
@@ -208,60 +168,38 @@ fn turned(kind: u64, place: usize) -> usize
     }
 }
 
-// A word's place in a block that has so many.
-fn place_of(x: u64, held: u64) -> usize
-    ensures { result ≤ 62 }
-{
-    if held == 0 {
-        return 1;
-    }
-    (x % held % 62 + 1) as usize
-}
-
-// What is done to the groups of a block that starts at `at` and has so many words: one raised, two exchanged, or bits of one
-// turned.
-fn change(deck: &mut [u8], at: usize, x: u64, held: u64) {
-    let power = 1u64 << (x / 0x1000_0000 % 64);
-    let place = place_of(x / 0x100, held);
-    let here = group_at(at, place);
-    match x % 16 {
-        7 => raise(deck, here, power),
-        8 => exchange(deck, here, group_at(at, place_of(x / 0x1_0000, held))),
-        9 => {
-            if place < 62 {
-                exchange(deck, here, group_at(at, place + 1));
-            }
-        }
-        10 | 11 => raise(deck, at, power),
-        12 => raise(deck, at, 0x1_0000_0000),
-        13 => turn_group(deck, here, 0x30_0000),
-        14 => turn_group(deck, here, 0x8_0010_0000),
-        _ => turn_group(deck, at, 0),
-    }
-}
-
-// Whether the check is then made to hold again: of an exchange half the time, else always.
-fn is_mended(x: u64) -> bool {
-    match x % 16 {
-        7 | 10 | 11 | 12 | 13 | 14 => true,
-        8 | 9 => x / 0x100_0000_0000 % 2 == 1,
-        _ => false,
-    }
-}
-
-// Nothing, a byte turned anywhere or in the number, the count, the reserved bytes or the check, or groups changed.
-fn damage(deck: &mut [u8], at: usize, x: u64, old: bool, held: u64) {
+// What is done to a block that starts at `at`: nothing, a byte turned anywhere or in the number, the count, the reserved
+// bytes or the check, or groups changed so that the check holds.
+fn damage(deck: &mut [u8], at: usize, x: u64) {
     if 100000 < at {
         return;
     }
-    if x % 16 < 7 {
-        let mask = (x / 0x10_0000 % 255 + 1) as u8;
-        turn(deck, at + turned(x % 16, (x / 0x100 % 512) as usize), mask);
+    let kind = x % 16;
+    let place = (x / 0x100 % 512) as usize;
+    let mask = (x / 0x10_0000 % 255 + 1) as u8;
+    let power = 1u64 << (x / 0x1000_0000 % 64);
+    let first = (x / 0x100 % 62 + 1) as usize;
+    let second = (x / 0x1_0000 % 62 + 1) as usize;
+    if kind < 7 {
+        turn(deck, at + turned(kind, place), mask);
         return;
     }
-    change(deck, at, x, held);
-    if is_mended(x) {
-        mend(old, deck, at);
+    match kind {
+        7 | 8 | 9 => {
+            raise(deck, at + first * 8, power);
+            raise(deck, at + second * 8, std::num::wrapping_sub_u64(0, power));
+        }
+        10 | 11 => {
+            raise(deck, at, power);
+            raise(deck, at + 504, power);
+        }
+        12 => {
+            raise(deck, at, 0x1_0000_0000);
+            raise(deck, at + 504, 0x1_0000_0000);
+        }
+        13 => exchange(deck, at + first * 8, at + 504, 0x30_0000),
+        14 => exchange(deck, at + first * 8, at + 504, 0x8_0010_0000),
+        _ => turn(deck, at, 0),
     }
 }
 
@@ -275,18 +213,6 @@ fn block_of(words: usize, x: u64) -> usize {
         return blocks - 1;
     }
     (x / 4 % blocks as u64) as usize
-}
-
-// How many words that block has; where there is no deck, as many as a full one.
-fn held_in(block: usize, words: usize) -> u64 {
-    let before = block % 100 * 62;
-    if words <= before {
-        return 62;
-    }
-    if 62 < words - before {
-        return 62;
-    }
-    (words - before) as u64
 }
 
 // How much of the deck is read: all of it, or a byte or a block less or more, or none.
@@ -350,7 +276,6 @@ fn write(
     mix_written(digest, answer, deck, counts)
 }
 
-// By the reader and by the old one.
 fn read(
     digest: u64,
     words: usize,
@@ -358,14 +283,12 @@ fn read(
     deck: &[u8],
     read: &mut [u64],
     counts: &mut [u32],
-    olds: &mut [u32],
 ) -> u64 {
     let n = agree::at_most(length_of(bytes_of(words), x / 0x100), deck.len());
     let room = agree::at_most(room_for(words, 4097, x), read.len());
     let answer = deck::read(&deck[0..n], &mut read[0..room]);
     let d = mix_read(digest, answer, read, counts);
-    let old = deck::read_old(&deck[0..n], &mut read[0..room]);
-    mix_listed(mix_read(d, old, read, olds), &deck[0..n])
+    mix_listed(d, &deck[0..n])
 }
 
 // What the lister prints of the deck.
@@ -383,21 +306,6 @@ fn mix_text(digest: u64, listed: Written, text: &[u8]) -> u64 {
     agree::mix_bytes(digest, &text[0..n])
 }
 
-fn old_blocks(old: bool, words: usize) -> usize {
-    if old {
-        return bytes_of(words) / 512;
-    }
-    0
-}
-
-// One deck in four is made an old one, and one block of each is damaged.
-fn spoil(deck: &mut [u8], words: usize, c: u64, e: u64) {
-    let old = c / 0x4000_0000_0000_0000 == 3;
-    age(deck, old_blocks(old, words));
-    let block = block_of(words, c / 0x1_0000) % 100;
-    damage(deck, block * 512, e, old, held_in(block, words));
-}
-
 fn case(
     k: u32,
     g: Going,
@@ -406,7 +314,6 @@ fn case(
     again: &mut [u64],
     written: &mut [u32],
     counts: &mut [u32],
-    olds: &mut [u32],
 ) -> Going {
     let a = agree::next(g.x);
     let b = agree::next(a);
@@ -416,10 +323,10 @@ fn case(
     let bad = (b / 0x1_0000 % 8 * 4096 + a / 0x100 % 4096) as usize;
     let x = fill_words(e, bad, store);
     let d = write(g.digest, words, b, store, deck, written);
-    spoil(deck, words, c, e);
+    damage(deck, block_of(words, c / 0x1_0000) % 100 * 512, e);
     Going {
         x: x,
-        digest: read(d, words, c, deck, again, counts, olds),
+        digest: read(d, words, c, deck, again, counts),
     }
 }
 
@@ -429,11 +336,10 @@ fn cases(
     again: &mut [u64],
     written: &mut [u32],
     counts: &mut [u32],
-    olds: &mut [u32],
 ) {
     let mut g = Going { x: 43, digest: 8 };
     for k in 0..2400u32 {
-        g = case(k, g, store, deck, again, written, counts, olds);
+        g = case(k, g, store, deck, again, written, counts);
         if k % 100 == 99 {
             agree::print_digest(k as u64 + 1, g.digest);
         }
@@ -454,20 +360,10 @@ fn main() {
     let mut again = [0u64; 4097];
     let mut written = [0u32; 32];
     let mut counts = [0u32; 32];
-    let mut olds = [0u32; 32];
     agree::fill(47, &mut deck);
-    cases(
-        &mut store,
-        &mut deck,
-        &mut again,
-        &mut written,
-        &mut counts,
-        &mut olds,
-    );
+    cases(&mut store, &mut deck, &mut again, &mut written, &mut counts);
     agree::print_name(b"written");
     report(&written);
     agree::print_name(b"read");
     report(&counts);
-    agree::print_name(b"read old");
-    report(&olds);
 }

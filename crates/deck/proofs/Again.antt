@@ -1,15 +1,5 @@
 -- An accepted deck: its blocks are the blocks of its words. Assumes nothing.
-use Prim.Native.Nat.{ℕ, suc, ◌+◌, ◌-◌, ◌*◌, ◌^◌, ◌<◌, ◌≤◌}
-use mathlib.Core.Path.{◌≡◌, refl, sym, ap, ap₂, ◌∙◌}
-use mathlib.Core.List.{List, [], ◌∷◌, ◌++◌, map, append-nil}
-use mathlib.Core.Bool.{true}
-use mathlib.Core.Logic.{⊎_elim}
-use native.Mathlib.Nat.{mod-eq_of_lt, eq-zero-or-pos}
-use native.Mathlib.Omega.{arith}
-use borrow.Author.Tests.{eqb-true, ne_eqb}
-use lib.Dec.{eqb}
-use lib.ListN.{length, get_or, take, drop, replicate, length-append, length-drop, take-append-drop, drop_of_length-le}
-use lib.Seq.{take_at, drop_at, take_all, take-suc, take-take, length-take-le}
+use Rattle.std.proofs.Common.{◌≡◌, ℕ, suc, ◌+◌, ◌-◌, ◌*◌, ◌^◌, ◌<◌, ◌≤◌, true, eqb, List, [], ◌∷◌, ◌++◌, map, length, get_or, take, drop, replicate, sym, refl, ap, ◌∙◌, ap₂, ⊎_elim, append-nil, mod-eq_of_lt, eq-zero-or-pos, arith, length-append, length-drop, take-append-drop, drop_of_length-le, length-take-le, take_all, take-suc, take-take, take_at, drop_at, ne_eqb, eqb-true}
 use Rattle.digits.specs.Line.{join}
 use Rattle.digits.specs.Table.{Each}
 use Rattle.digits.proofs.Lines.{join_parts}
@@ -17,15 +7,12 @@ use Rattle.digits.proofs.Refusals.{None}
 use Rattle.digits.proofs.Table.{any, each_split}
 use Rattle.digits.proofs.Truth.{both}
 use Rattle.digits.specs.Lists.{joined, in_turn, all_zero}
-use Rattle.totals.specs.Totals.{check_by}
-use Rattle.totals.specs.declared.Total.{Total}
-use Rattle.totals.proofs.Promises.{check_before}
-use Rattle.deck.specs.Deck.{head_widths, count_in, words_in, unused_in, head_of, sealed, block_by, check_in, word_checks, block_checks}
+use Rattle.deck.specs.Deck.{head_widths, count_in, words_in, unused_in, head_of, sealed, block_of, check_of, check_in, word_checks, block_checks}
 use Rattle.deck.proofs.Through.{Block}
 use Rattle.deck.proofs.Turns.{none_both}
 use Rattle.deck.proofs.Blocks.{Good, good, some, full}
 use Rattle.deck.proofs.Decks.{length_words}
-use Rattle.deck.proofs.Written.{made}
+use Rattle.deck.proofs.Written.{check_before, made}
 
 -- ---- a block that is not refused is the block of its words
 
@@ -50,9 +37,9 @@ front_is (g ∷ gs) e h z =
     let k : 1 + count_in (g ∷ gs) ≡ suc (count_in (g ∷ gs)) = omega arith in
     ap (λ (r : List ℕ). g ∷ r) {x = take 62 gs} (padded (count_in (g ∷ gs)) gs (omega arith) h (rw k at z))
 
-block_again : (by : Total) (n b : ℕ) (gs : List ℕ) → Block gs → Good by n b gs → block_by by b (words_in gs) ≡ gs
-unfolding block_by
-block_again by n b gs (e, bits) g =
+block_again : (n b : ℕ) (gs : List ℕ) → Block gs → Good n b gs → block_of b (words_in gs) ≡ gs
+unfolding block_of
+block_again n b gs (e, bits) g =
     let s = g.shape in
     let h = (some (eqb (b + 1) n) (count_in gs) s.count).1 in
     let l = length_words gs e h in
@@ -62,8 +49,8 @@ block_again by n b gs (e, bits) g =
     let f : head_of b (length (words_in gs)) ∷ (words_in gs ++ replicate (62 - length (words_in gs)) 0) ≡ take 63 gs = rw (head, l) (sym (front_is gs e h s.unused)) in
     let n : length (take 63 gs) ≡ 63 = length-take-le 63 gs (omega arith) in
     let t : take 63 gs ++ (check_in gs ∷ []) ≡ gs = sym (take-suc gs 63 0 (omega arith)) ∙ take_all 64 gs (omega arith) in
-    let c : check_by by (take 63 gs) ≡ check_in gs = sym (check_before by (take 63 gs) (check_in gs ∷ []) n) ∙ ap (check_by by) t ∙ g.check in
-    ap (sealed by) f ∙ rw c t
+    let c : check_of (take 63 gs) ≡ check_in gs = sym (check_before (take 63 gs) (check_in gs ∷ []) n) ∙ ap check_of t ∙ g.check in
+    ap sealed f ∙ rw c t
 
 -- ---- all the blocks
 
@@ -76,8 +63,8 @@ abbrev words : List (List ℕ) → List ℕ
 words bs = joined (map words_in bs)
 
 -- what the blocks from block b on are
-pub record Again (by : Total) (b : ℕ) (bs : List (List ℕ)) : Type 0 where
-  pub same : made by (length bs) b (words bs) ≡ bs
+pub record Again (b : ℕ) (bs : List (List ℕ)) : Type 0 where
+  pub same : made (length bs) b (words bs) ≡ bs
   pub least : length bs * 62 < length (words bs) + 62
   pub most : length (words bs) ≤ length bs * 62
   pub total : length (words bs) ≤ 4096 - 62 * b
@@ -87,13 +74,13 @@ no_words : (bs : List (List ℕ)) → length bs ≡ 0 → words bs ≡ []
 no_words [] e = refl
 no_words (gs ∷ bs) e = absurd (omega arith)
 
-pub again : (by : Total) (b all : ℕ) (bs : List (List ℕ)) → Each Block bs → b + length bs ≡ all → all ≤ 67 → None (in_turn (block_checks by all) b bs) → Again by b bs
-again by b all [] p e m h = record { same = refl; least = omega arith; most = omega arith; total = omega arith; none = tt }
-again by b all (gs ∷ bs) p e m h =
-    let (here, later) = each_split _ (block_checks by all b gs) _ h in
-    turn (again by (suc b) all bs p.1 (omega arith) m later) (good by all b gs here)
+pub again : (b all : ℕ) (bs : List (List ℕ)) → Each Block bs → b + length bs ≡ all → all ≤ 67 → None (in_turn (block_checks all) b bs) → Again b bs
+again b all [] p e m h = record { same = refl; least = omega arith; most = omega arith; total = omega arith; none = tt }
+again b all (gs ∷ bs) p e m h =
+    let (here, later) = each_split _ (block_checks all b gs) _ h in
+    turn (again (suc b) all bs p.1 (omega arith) m later) (good all b gs here)
   where
-    turn : Again by (suc b) bs → Good by all b gs → Again by b (gs ∷ bs)
+    turn : Again (suc b) bs → Good all b gs → Again b (gs ∷ bs)
     turn i g =
         let ws = words bs in
         let n = length bs in
@@ -107,7 +94,7 @@ again by b all (gs ∷ bs) p e m h =
         let last : n ≡ 0 → None (in_turn word_checks (62 * b + length (words_in gs)) ws) = λ q. rw (no_words bs q) tt in
         let next : 0 < n → None (in_turn word_checks (62 * b + length (words_in gs)) ws) = λ q. let f = fill q in let z : 62 * b + length (words_in gs) ≡ 62 * suc b = omega arith in rw z i.none in
         record {
-          same = rw (c.0, c.1, block_again by all b gs p.0 g, i.same);
+          same = rw (c.0, c.1, block_again all b gs p.0 g, i.same);
           least = ⊎_elim (λ q. omega arith) (λ q. let f = fill q in let lo = i.least in omega arith) (eq-zero-or-pos n);
           most = omega arith;
           total = ⊎_elim (λ q. omega arith) (λ q. let f = fill q in let to = i.total in omega arith) (eq-zero-or-pos n);

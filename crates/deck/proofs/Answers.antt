@@ -1,13 +1,6 @@
 -- What `read` and `write` answer, test by test, and what stands in the room lent. Assumes nothing.
-use Prim.Native.Nat.{ℕ, ◌*◌, ◌/◌, ◌%◌, ◌<◌, ◌≤◌}
-use mathlib.Core.Path.{◌≡◌, refl, sym, ap, ◌∙◌}
-use mathlib.Core.List.{List, [], ◌∷◌, ◌++◌}
-use mathlib.Core.Bool.{Bool, false, not, cond}
-use native.Mathlib.Omega.{arith}
-use borrow.Author.Tests.{eq-eqb, ne_eqb, eqb-true, eqb-false, ltb-false, lt-ltb, le-ltb, not-false}
-use lib.Dec.{T, eqb, ltb}
-use lib.ListN.{length, take}
-use lib.Seq.{take_at}
+use Rattle.std.proofs.Common.{◌≡◌, ℕ, ◌*◌, ◌/◌, ◌%◌, ◌<◌, ◌≤◌, Bool, false, cond, not, T, eqb, ltb, List, [], ◌∷◌, ◌++◌, length, take, sym, refl, ap, ◌∙◌, arith, take_at, ltb-false, le-ltb, lt-ltb, eq-eqb, ne_eqb, eqb-true}
+use borrow.Author.Tests.{eqb-false, not-false}
 use Rattle.digits.specs.Refusal.{Check, first}
 use Rattle.digits.proofs.Refusals.{numbered, None, refuses, none_first, Tells, given_none, first_append}
 use Rattle.digits.proofs.Table.{each_split}
@@ -15,11 +8,10 @@ use Rattle.digits.proofs.Truth.{zero_one, neither}
 use Rattle.digits.specs.Lent.{over}
 use Rattle.digits.specs.Lists.{in_turn}
 use Rattle.digits.specs.Sizes.{room_wrong}
-use Rattle.totals.specs.declared.Total.{Total}
-use Rattle.deck.specs.Deck.{length_wrong, word_checks, deck_checks, blocks_of, words_of, read_checks, read_by, words_by, block_count, deck_of, words_wrong, write_checks, write_of, deck_after}
+use Rattle.deck.specs.Deck.{length_wrong, word_checks, deck_checks, blocks_of, words_of, read_checks, read_of, words_after, block_count, deck_of, words_wrong, write_checks, write_of, deck_after}
 use Rattle.deck.specs.declared.ReadIn.TheVariants as R
 use Rattle.deck.specs.declared.Writing.TheVariants as W
-use Rattle.deck.proofs.Checks.{words_numbered, blocks_numbered, read_numbered, write_numbered}
+use Rattle.deck.proofs.Checks.{blocks_numbered, read_numbered, write_numbered}
 
 -- ---- what a right length is, of a deck and of the words to write
 
@@ -82,28 +74,28 @@ byte_count ws = 512 * block_count (length ws)
 -- ---- `read`
 
 -- past 15, the blocks' first number, else 19 or none
-module _ (by : Total) (deck : List ℕ) (room : ℕ) (right : length_wrong (length deck) ≡ false) where
+module _ (deck : List ℕ) (room : ℕ) (right : length_wrong (length deck) ≡ false) where
   read_past :
-      let fault = first (deck_checks by deck) in
-      cond (not (eqb fault 0)) fault (cond (ltb room (length (words_of deck))) 19 0) ≡ first (read_checks by deck room)
-  read_past = past 15 length_wrong (deck_checks by) word_count deck room (blocks_numbered by (length deck / 512) 0 (blocks_of deck)) right
+      let fault = first (deck_checks deck) in
+      cond (not (eqb fault 0)) fault (cond (ltb room (length (words_of deck))) 19 0) ≡ first (read_checks deck room)
+  read_past = past 15 length_wrong deck_checks word_count deck room (blocks_numbered (length deck / 512) 0 (blocks_of deck)) right
 
-  pub read_block : (r : ℕ) → r ≡ first (deck_checks by deck) → (r ≡ 0 → ⊥) → r ≡ first (read_checks by deck room)
+  pub read_block : (r : ℕ) → r ≡ first (deck_checks deck) → (r ≡ 0 → ⊥) → r ≡ first (read_checks deck room)
   read_block r e n = rw (← read_past, ← e, ne_eqb r 0 n)
 
-  pub read_19 : first (deck_checks by deck) ≡ 0 → room < length (words_of deck) → 19 ≡ first (read_checks by deck room)
+  pub read_19 : first (deck_checks deck) ≡ 0 → room < length (words_of deck) → 19 ≡ first (read_checks deck room)
   read_19 ok m = rw (← read_past, ok, lt-ltb room (length (words_of deck)) m)
 
-  pub read_0 : first (deck_checks by deck) ≡ 0 → length (words_of deck) ≤ room → first (read_checks by deck room) ≡ 0
+  pub read_0 : first (deck_checks deck) ≡ 0 → length (words_of deck) ≤ room → first (read_checks deck room) ≡ 0
   read_0 ok m = rw (← read_past, ok, le-ltb room (length (words_of deck)) m)
 
-module _ (by : Total) (deck words : List ℕ) where
-  pub refused : (r : ℕ) → r ≡ first (read_checks by deck (length words)) → (r ≡ 0 → ⊥) → (R.Refused r ≡ read_by by deck (length words)) × (words ≡ words_by by deck words)
-  unfolding read_by words_by
+module _ (deck words : List ℕ) where
+  pub refused : (r : ℕ) → r ≡ first (read_checks deck (length words)) → (r ≡ 0 → ⊥) → (R.Refused r ≡ read_of deck (length words)) × (words ≡ words_after deck words)
+  unfolding read_of words_after
   refused r e n = rw (← e) (sym (refuses R.Refused _ r n), sym (refuses (λ k. words) _ r n))
 
-  pub accepted : first (read_checks by deck (length words)) ≡ 0 → (R.Words (length (words_of deck)) ≡ read_by by deck (length words)) × (over (words_of deck) words ≡ words_by by deck words)
-  unfolding read_by words_by
+  pub accepted : first (read_checks deck (length words)) ≡ 0 → (R.Words (length (words_of deck)) ≡ read_of deck (length words)) × (over (words_of deck) words ≡ words_after deck words)
+  unfolding read_of words_after
   accepted e = rw e (refl, refl)
 
 -- a refusal tells its number, and is no number of words
@@ -111,18 +103,18 @@ pub reading_tells : Tells R.Words R.Refused
 reading_tells = record { number = λ m n e. cc; apart = λ w n e. zero_one cc }
 
 -- what an answer of n words says
-abbrev pub Read : Total → List ℕ → ℕ → ℕ → Type 0
-Read by = Passed 15 length_wrong (deck_checks by) word_count
+abbrev pub Read : List ℕ → ℕ → ℕ → Type 0
+Read = Passed 15 length_wrong deck_checks word_count
 
-pub was_read : (by : Total) (deck : List ℕ) (room n : ℕ) → read_by by deck room ≡ R.Words n → Read by deck room n
-unfolding read_by
-was_read by deck room n e =
-    passed 15 length_wrong (deck_checks by) word_count deck room n
-    (given_none reading_tells (word_count deck) n (λ q. cc) (read_checks by deck room) (read_numbered by deck room) e)
+pub was_read : (deck : List ℕ) (room n : ℕ) → read_of deck room ≡ R.Words n → Read deck room n
+unfolding read_of
+was_read deck room n e =
+    passed 15 length_wrong deck_checks word_count deck room n
+    (given_none reading_tells (word_count deck) n (λ q. cc) (read_checks deck room) (read_numbered deck room) e)
 
 -- the words stand at the front of the room
-pub taken : (by : Total) (deck words : List ℕ) (n : ℕ) → Read by deck (length words) n → take n (words_by by deck words) ≡ words_of deck
-taken by deck words n r = ap (take n) (sym (accepted by deck words r.all).1) ∙ take_at (words_of deck) _ n r.count
+pub taken : (deck words : List ℕ) (n : ℕ) → Read deck (length words) n → take n (words_after deck words) ≡ words_of deck
+taken deck words n r = ap (take n) (sym (accepted deck words r.all).1) ∙ take_at (words_of deck) _ n r.count
 
 -- ---- `write`
 
@@ -134,11 +126,6 @@ module _ (ws deck : List ℕ) where
   pub write_accepted : first (write_checks ws (length deck)) ≡ 0 → (W.Bytes (512 * block_count (length ws)) ≡ write_of ws (length deck)) × (over (deck_of ws) deck ≡ deck_after ws deck)
   unfolding write_of deck_after
   write_accepted e = rw e (refl, refl)
-
--- words that are not refused are refused only for want of room
-pub only_room : (ws : List ℕ) → words_wrong (length ws) ≡ false → None (in_turn word_checks 0 ws) → (room : ℕ) → first (write_checks ws room) ≡ cond (ltb room (byte_count ws)) 19 0
-only_room ws right none room =
-    sym (past 21 words_wrong (in_turn word_checks 0) byte_count ws room (words_numbered 0 ws) right) ∙ rw (none_first (in_turn word_checks 0 ws) none)
 
 -- a refusal tells its number, and is no number of bytes
 pub writing_tells : Tells W.Bytes W.Refused

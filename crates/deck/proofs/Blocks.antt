@@ -1,18 +1,11 @@
 -- The refusals of a block, test by test, and what a block without one is. Assumes nothing.
-use Prim.Native.Nat.{ℕ, ◌+◌, ◌*◌, ◌≤◌}
-use mathlib.Core.Path.{◌≡◌}
-use mathlib.Core.List.{List}
-use mathlib.Core.Bool.{Bool, true, false, not}
-use native.Mathlib.Omega.{arith}
-use borrow.Author.Tests.{eq-eqb, ne_eqb, eqb-true, eqb-false, ltb-false, le-ltb, not-false}
-use lib.Dec.{eqb, ltb}
+use Rattle.std.proofs.Common.{◌≡◌, ℕ, ◌+◌, ◌*◌, ◌≤◌, Bool, true, false, not, eqb, ltb, List, arith, ltb-false, le-ltb, eq-eqb, ne_eqb, eqb-true}
+use borrow.Author.Tests.{eqb-false, not-false}
 use Rattle.digits.specs.Refusal.{first}
 use Rattle.digits.proofs.Refusals.{None}
 use Rattle.digits.proofs.Truth.{neither}
 use Rattle.digits.specs.Lists.{in_turn, all_zero}
-use Rattle.totals.specs.Totals.{check_by}
-use Rattle.totals.specs.declared.Total.{Total}
-use Rattle.deck.specs.Deck.{number_in, count_in, reserved_in, words_in, unused_in, check_in, count_wrong, total_wrong, unused_wrong, shape_wrong, word_checks, block_checks}
+use Rattle.deck.specs.Deck.{number_in, count_in, reserved_in, words_in, unused_in, check_of, check_in, count_wrong, total_wrong, unused_wrong, shape_wrong, word_checks, block_checks}
 
 -- what a right count is
 pub some : (last : Bool) (count : ℕ) → count_wrong last count ≡ false → (1 ≤ count) × (count ≤ 62)
@@ -28,6 +21,22 @@ pub full : (count : ℕ) → count_wrong false count ≡ false → count ≡ 62
 full count h = eqb-true count 62 (not-false (eqb count 62) h)
 
 module _ (n b : ℕ) (gs : List ℕ) where
+  pub gives_16 : (number_in gs ≡ b → ⊥) → 16 ≡ first (block_checks n b gs)
+  unfolding block_checks
+  gives_16 h = rw (ne_eqb (number_in gs) b h)
+
+  pub gives_17 : number_in gs ≡ b → shape_wrong n b gs ≡ true → 17 ≡ first (block_checks n b gs)
+  unfolding block_checks
+  gives_17 h s = rw (eq-eqb (number_in gs) b h, s)
+
+  pub gives_18 : number_in gs ≡ b → shape_wrong n b gs ≡ false → (check_of gs ≡ check_in gs → ⊥) → 18 ≡ first (block_checks n b gs)
+  unfolding block_checks
+  gives_18 h s k = rw (eq-eqb (number_in gs) b h, s, ne_eqb (check_of gs) (check_in gs) k)
+
+  pub gives_word : number_in gs ≡ b → shape_wrong n b gs ≡ false → check_of gs ≡ check_in gs → first (in_turn word_checks (62 * b) (words_in gs)) ≡ first (block_checks n b gs)
+  unfolding block_checks
+  gives_word h s k = rw (eq-eqb (number_in gs) b h, s, eq-eqb (check_of gs) (check_in gs) k)
+
   pub record Shaped : Type 0 where
     pub count : count_wrong (eqb (b + 1) n) (count_in gs) ≡ false
     pub total : 62 * b + count_in gs ≤ 4096
@@ -46,43 +55,26 @@ module _ (n b : ℕ) (gs : List ℕ) where
         unused = not-false (all_zero (unused_in gs)) unused;
       }
 
-  pub well_shaped : Shaped → shape_wrong n b gs ≡ false
-  well_shaped s = rw (s.count, le-ltb 4096 (62 * b + count_in gs) s.total, eq-eqb (reserved_in gs) 0 s.reserved, s.unused)
-
-module _ (by : Total) (n b : ℕ) (gs : List ℕ) where
-  pub gives_16 : (number_in gs ≡ b → ⊥) → 16 ≡ first (block_checks by n b gs)
-  unfolding block_checks
-  gives_16 h = rw (ne_eqb (number_in gs) b h)
-
-  pub gives_17 : number_in gs ≡ b → shape_wrong n b gs ≡ true → 17 ≡ first (block_checks by n b gs)
-  unfolding block_checks
-  gives_17 h s = rw (eq-eqb (number_in gs) b h, s)
-
-  pub gives_18 : number_in gs ≡ b → shape_wrong n b gs ≡ false → (check_by by gs ≡ check_in gs → ⊥) → 18 ≡ first (block_checks by n b gs)
-  unfolding block_checks
-  gives_18 h s k = rw (eq-eqb (number_in gs) b h, s, ne_eqb (check_by by gs) (check_in gs) k)
-
-  pub gives_word : number_in gs ≡ b → shape_wrong n b gs ≡ false → check_by by gs ≡ check_in gs → first (in_turn word_checks (62 * b) (words_in gs)) ≡ first (block_checks by n b gs)
-  unfolding block_checks
-  gives_word h s k = rw (eq-eqb (number_in gs) b h, s, eq-eqb (check_by by gs) (check_in gs) k)
+  shape : Shaped → shape_wrong n b gs ≡ false
+  shape s = rw (s.count, le-ltb 4096 (62 * b + count_in gs) s.total, eq-eqb (reserved_in gs) 0 s.reserved, s.unused)
 
   -- what a block is that is not refused
   pub record Good : Type 0 where
     pub number : number_in gs ≡ b
-    pub shape : Shaped n b gs
-    pub check : check_by by gs ≡ check_in gs
+    pub shape : Shaped
+    pub check : check_of gs ≡ check_in gs
     pub words : None (in_turn word_checks (62 * b) (words_in gs))
 
-  pub good : None (block_checks by n b gs) → Good
+  pub good : None (block_checks n b gs) → Good
   unfolding block_checks
   good (number, (shape, (check, words))) =
       record {
         number = eqb-true (number_in gs) b (not-false _ number);
-        shape = shaped n b gs shape;
-        check = eqb-true (check_by by gs) (check_in gs) (not-false _ check);
+        shape = shaped shape;
+        check = eqb-true (check_of gs) (check_in gs) (not-false _ check);
         words = words;
       }
 
-  pub none : Good → None (block_checks by n b gs)
+  pub none : Good → None (block_checks n b gs)
   unfolding block_checks
-  none g = (rw (eq-eqb (number_in gs) b g.number), (well_shaped n b gs g.shape, (rw (eq-eqb (check_by by gs) (check_in gs) g.check), g.words)))
+  none g = (rw (eq-eqb (number_in gs) b g.number), (shape g.shape, (rw (eq-eqb (check_of gs) (check_in gs) g.check), g.words)))

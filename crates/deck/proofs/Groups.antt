@@ -1,9 +1,5 @@
 -- A block's groups and bytes, and a deck's blocks. Assumes nothing.
-use Prim.Native.Nat.{ℕ, ◌*◌, ◌/◌, ◌<◌}
-use mathlib.Core.Path.{◌≡◌, refl, ◌∙◌}
-use mathlib.Core.List.{List, [], ◌∷◌}
-use native.Mathlib.Omega.{arith}
-use lib.ListN.{length, get_or, take, drop, length-append}
+use Rattle.std.proofs.Common.{◌≡◌, ℕ, ◌*◌, ◌/◌, ◌<◌, List, [], ◌∷◌, length, get_or, take, drop, refl, ◌∙◌, arith, length-append}
 use Rattle.digits.specs.Number.{number_of, digits_of}
 use Rattle.deck.specs.Deck.{groups_of, bytes_of, blocks_of, block_at}
 use Rattle.digits.proofs.Lists.{length_each, each_at}

@@ -10,6 +10,4 @@ pub mod Through
 pub mod Back
 pub mod Again
 pub mod Trips
-pub mod Pieces
-pub mod Exchange
 pub mod Promises

@@ -1,11 +1,5 @@
 -- There and back in pieces of one length: groups through bytes, and blocks through groups. Assumes nothing.
-use Prim.Native.Nat.{ℕ, zero, suc, ◌*◌, ◌^◌, ◌<◌}
-use mathlib.Core.Path.{◌≡◌, refl, ◌∙◌}
-use mathlib.Core.List.{List, [], ◌∷◌, map}
-use native.Mathlib.Nat.{suc-mul}
-use native.Mathlib.Omega.{arith}
-use lib.ListN.{length, take, drop, length-drop, take-append-drop}
-use lib.Seq.{take_at, drop_at, length-take-le}
+use Rattle.std.proofs.Common.{◌≡◌, ℕ, zero, suc, ◌*◌, ◌^◌, ◌<◌, List, [], ◌∷◌, map, length, take, drop, refl, ◌∙◌, suc-mul, arith, length-drop, take-append-drop, length-take-le, take_at, drop_at}
 use Rattle.digits.specs.Lists.{pieces, joined}
 use Rattle.digits.specs.Number.{digits_of, number_of}
 use Rattle.deck.specs.Deck.{groups_of, bytes_of}

@@ -1,14 +1,7 @@
 -- The first refusal of the checks of each element in turn. Assumes nothing.
-use Prim.Native.Nat.{ℕ, zero, suc, ◌+◌, ◌<◌}
-use mathlib.Core.Path.{◌≡◌}
-use mathlib.Core.List.{List, [], ◌∷◌, ◌++◌}
-use native.Mathlib.Nat.{add-suc, suc-add, add-zero}
-use native.Mathlib.Omega.{arith}
-use borrow.Author.Tests.{ne_eqb}
-use lib.Dec.{T}
-use lib.ListN.{length, get_or, set, take, drop}
+use Rattle.std.proofs.Common.{◌≡◌, ℕ, zero, suc, ◌+◌, ◌<◌, T, List, [], ◌∷◌, ◌++◌, length, get_or, take, drop, add-zero, add-suc, suc-add, arith, ne_eqb}
 use Rattle.digits.specs.Refusal.{Check, first}
-use Rattle.digits.proofs.Refusals.{numbered, None, none_first, numbered_append, first_append}
+use Rattle.digits.proofs.Refusals.{numbered, None, numbered_append, first_append}
 use Rattle.digits.proofs.Table.{each_append, each_split}
 use Rattle.digits.specs.Lists.{in_turn}
 use Rattle.digits.proofs.Lists.{placed_step}
@@ -50,14 +43,3 @@ module _ {A : Type 0} (f : ℕ → A → List Check) where
   none_at d [] a h i k = absurd (omega arith)
   none_at d (x ∷ l) a h zero k = rw (add-zero a) (each_split _ (f a x) _ h).0
   none_at d (x ∷ l) a h (suc i) k = rw (add-suc a i, ← suc-add a i) (none_at d l (suc a) (each_split _ (f a x) _ h).1 i (omega arith))
-
-  -- one element exchanged for one that is refused, where none was
-  pub turn_set : ((i : ℕ) (x : A) → T (numbered (f i x))) → (l : List A) (a i : ℕ) (y : A) (r : ℕ) → None (in_turn f a l) → i < length l → r ≡ first (f (a + i) y) → (r ≡ 0 → ⊥)
-      → r ≡ first (in_turn f a (set l i y))
-  turn_set t [] a i y r h k e n = absurd (omega arith)
-  turn_set t (x ∷ l) a zero y r h k e n =
-      rw (first_append (f a y) (in_turn f (suc a) l) (t a y), ← add-zero a, ← e, ne_eqb r 0 n)
-  turn_set t (x ∷ l) a (suc i) y r h k e n =
-      let (here, later) = each_split _ (f a x) _ h in
-      rw (first_append (f a x) (in_turn f (suc a) (set l i y)) (t a x), none_first (f a x) here)
-      (turn_set t l (suc a) i y r later (omega arith) (rw (suc-add a i, ← add-suc a i) e) n)

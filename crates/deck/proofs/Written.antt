@@ -1,15 +1,9 @@
 -- A block and a deck as they are made. Assumes nothing.
-use Prim.Native.Nat.{ℕ, zero, suc, min, ◌+◌, ◌-◌, ◌*◌, ◌<◌, ◌≤◌}
-use mathlib.Core.Path.{◌≡◌, refl, sym, ap, ◌∙◌}
-use mathlib.Core.List.{List, [], ◌++◌, map}
-use native.Mathlib.Nat.{zero-add}
-use native.Mathlib.Omega.{arith}
-use lib.ListN.{length, take, drop, replicate, length-append, length-replicate, length-take, take-append-drop}
-use lib.Seq.{take_at}
+use Rattle.std.proofs.Common.{◌≡◌, ℕ, zero, suc, ◌+◌, ◌-◌, ◌*◌, ◌^◌, ◌<◌, ◌≤◌, min, List, [], ◌++◌, map, length, take, drop, replicate, sym, refl, ap, ◌∙◌, mod-lt, zero-add, arith, length-append, take-append-drop, length-take, take_all, take_at, pow_pos}
+use lib.ListN.{length-replicate}
+use Rattle.digits.specs.Line.{total}
 use Rattle.digits.specs.Lists.{pieces, joined, placed}
-use Rattle.totals.specs.declared.Total.{Total}
-use Rattle.totals.specs.declared.Total.TheVariants.{Second}
-use Rattle.deck.specs.Deck.{bytes_of, block_by, block_count, blocks_by, deck_by}
+use Rattle.deck.specs.Deck.{bytes_of, check_of, block_of, block_count, blocks_for, deck_of}
 use Rattle.digits.proofs.Lists.{length_pieces, pieces_at, placed_step}
 use Rattle.deck.proofs.Groups.{length_bytes}
 
@@ -21,32 +15,40 @@ drop_zeros (suc k) (suc n) = let e : suc n - suc k ≡ n - k = omega arith in rw
 pub length_padded : (ws : List ℕ) → length ws ≤ 62 → length (ws ++ replicate (62 - length ws) 0) ≡ 62
 length_padded ws h = length-append ws _ ∙ rw (length-replicate {A = ℕ} (62 - length ws) 0) (omega arith)
 
+-- the check is of groups 0 to 62, whatever stands after them
+pub check_before : (gs rest : List ℕ) → length gs ≡ 63 → check_of (gs ++ rest) ≡ check_of gs
+unfolding check_of
+check_before gs rest e = rw (take_at gs rest 63 e, take_all 63 gs (omega arith))
+
+pub check_lt : (gs : List ℕ) → check_of gs < 2 ^ 64
+unfolding check_of
+check_lt gs = mod-lt (total (take 63 gs)) (pow_pos 64)
+
+pub length_block : (b : ℕ) (ws : List ℕ) → length ws ≤ 62 → length (block_of b ws) ≡ 64
+unfolding block_of
+length_block b ws h = ap suc (length-append (ws ++ replicate (62 - length ws) 0) _ ∙ rw (length_padded ws h))
+
+pub length_block_bytes : (b : ℕ) (ws : List ℕ) → length ws ≤ 62 → length (bytes_of (block_of b ws)) ≡ 512
+length_block_bytes b ws h = length_bytes (block_of b ws) ∙ rw (length_block b ws h)
+
 -- ---- the blocks of the words from block b on, n of them
 
-abbrev pub made : Total → ℕ → ℕ → List ℕ → List (List ℕ)
-made by n b ws = placed (block_by by) b (pieces 62 n ws)
+abbrev pub made : ℕ → ℕ → List ℕ → List (List ℕ)
+made n b ws = placed block_of b (pieces 62 n ws)
 
-module _ (by : Total) where
-  pub length_block : (b : ℕ) (ws : List ℕ) → length ws ≤ 62 → length (block_by by b ws) ≡ 64
-  unfolding block_by
-  length_block b ws h = ap suc (length-append (ws ++ replicate (62 - length ws) 0) _ ∙ rw (length_padded ws h))
+pub length_made : (n b : ℕ) (ws : List ℕ) → length (made n b ws) ≡ n
+length_made zero b ws = refl
+length_made (suc n) b ws = ap suc (length_made n (suc b) (drop 62 ws))
 
-  pub length_block_bytes : (b : ℕ) (ws : List ℕ) → length ws ≤ 62 → length (bytes_of (block_by by b ws)) ≡ 512
-  length_block_bytes b ws h = length_bytes (block_by by b ws) ∙ rw (length_block b ws h)
+length_made_bytes : (n b : ℕ) (ws : List ℕ) → length (joined (map bytes_of (made n b ws))) ≡ 512 * n
+length_made_bytes zero b ws = omega arith
+length_made_bytes (suc n) b ws =
+    length-append (bytes_of (block_of b (take 62 ws))) _
+    ∙ rw (length_block_bytes b (take 62 ws) (rw length-take (omega arith)), length_made_bytes n (suc b) (drop 62 ws)) (omega arith)
 
-  pub length_made : (n b : ℕ) (ws : List ℕ) → length (made by n b ws) ≡ n
-  length_made zero b ws = refl
-  length_made (suc n) b ws = ap suc (length_made n (suc b) (drop 62 ws))
-
-  length_made_bytes : (n b : ℕ) (ws : List ℕ) → length (joined (map bytes_of (made by n b ws))) ≡ 512 * n
-  length_made_bytes zero b ws = omega arith
-  length_made_bytes (suc n) b ws =
-      length-append (bytes_of (block_by by b (take 62 ws))) _
-      ∙ rw (length_block_bytes b (take 62 ws) (rw length-take (omega arith)), length_made_bytes n (suc b) (drop 62 ws)) (omega arith)
-
-  pub length_deck : (ws : List ℕ) → length (deck_by by ws) ≡ 512 * block_count (length ws)
-  unfolding deck_by blocks_by
-  length_deck ws = length_made_bytes (block_count (length ws)) 0 ws
+pub length_deck : (ws : List ℕ) → length (deck_of ws) ≡ 512 * block_count (length ws)
+unfolding deck_of blocks_for
+length_deck ws = length_made_bytes (block_count (length ws)) 0 ws
 
 -- ---- block b of the words, and the bytes of the blocks from it on, of n
 
@@ -61,8 +63,8 @@ pub short : (m k : ℕ) (l : List ℕ) → m ≡ min k (length l) → take m l �
 short m k l e = rw (take-append-drop k l) at (take_at (take k l) (drop k l) m (length-take k l ∙ sym e))
 
 abbrev pub rest_of : List ℕ → ℕ → ℕ → List ℕ
-rest_of ws n b = joined (map bytes_of (placed (block_by Second) (0 + b) (drop b (pieces 62 n ws))))
+rest_of ws n b = joined (map bytes_of (placed block_of (0 + b) (drop b (pieces 62 n ws))))
 
-pub rest_step : (ws : List ℕ) (n b : ℕ) → b < n → rest_of ws n b ≡ bytes_of (block_by Second b (words_at ws b)) ++ rest_of ws n (b + 1)
+pub rest_step : (ws : List ℕ) (n b : ℕ) → b < n → rest_of ws n b ≡ bytes_of (block_of b (words_at ws b)) ++ rest_of ws n (b + 1)
 rest_step ws n b h =
-    rw (placed_step (block_by Second) (pieces 62 n ws) [] 0 b (rw length_pieces h), pieces_at 62 n ws b h, zero-add b)
+    rw (placed_step block_of (pieces 62 n ws) [] 0 b (rw length_pieces h), pieces_at 62 n ws b h, zero-add b)

@@ -1,6 +1,6 @@
--- "The deck", in the paper's order and words, over the total that is the block check. Assumes nothing.
-use Rattle.std.specs.Prelude.{ℕ, ◌+◌, ◌-◌, ◌*◌, ◌/◌, ◌%◌, ◌≤◌, List, [], ◌∷◌, ◌++◌, map, Bool, not, cond, ◌||◌, length, get_or, take, drop, replicate, eqb, ltb}
-use Rattle.digits.specs.Line.{parts, join}
+-- "The deck", in the paper's order and words. Assumes nothing.
+use Rattle.std.specs.Prelude.{ℕ, ◌+◌, ◌-◌, ◌*◌, ◌/◌, ◌%◌, ◌^◌, Bool, cond, not, ◌||◌, List, [], ◌∷◌, ◌++◌, map, length, take, drop, replicate, ◌==◌, nat_lt, slice_index}
+use Rattle.digits.specs.Line.{total, parts, join}
 use Rattle.digits.specs.Refusal.{Check, first, answer}
 use Rattle.word.specs.Layout.{line_of}
 use Rattle.word.specs.Word.{fault_checks}
@@ -8,10 +8,6 @@ use Rattle.digits.specs.Lent.{over}
 use Rattle.digits.specs.Sizes.{room_wrong}
 use Rattle.digits.specs.Lists.{pieces, joined, placed, in_turn, all_zero}
 use Rattle.digits.specs.Number.{digits_of, number_of}
-use Rattle.digits.specs.Table.{Each}
-use Rattle.totals.specs.Totals.{check_by}
-use Rattle.totals.specs.declared.Total.{Total}
-use Rattle.totals.specs.declared.Total.TheVariants.{First, Second}
 use Rattle.deck.specs.declared.ReadIn.{ReadIn}
 use Rattle.deck.specs.declared.ReadIn.TheVariants as R
 use Rattle.deck.specs.declared.Writing.{Writing}
@@ -40,16 +36,16 @@ abbrev pub head_of : ℕ → ℕ → ℕ
 head_of number count = join head_widths (number ∷ count ∷ 0 ∷ [])
 
 abbrev pub head_in : List ℕ → List ℕ
-head_in gs = parts head_widths (get_or gs 0 0)
+head_in gs = parts head_widths (slice_index gs 0)
 
 abbrev pub number_in : List ℕ → ℕ
-number_in gs = get_or (head_in gs) 0 0
+number_in gs = slice_index (head_in gs) 0
 
 abbrev pub count_in : List ℕ → ℕ
-count_in gs = get_or (head_in gs) 1 0
+count_in gs = slice_index (head_in gs) 1
 
 abbrev pub reserved_in : List ℕ → ℕ
-reserved_in gs = get_or (head_in gs) 2 0
+reserved_in gs = slice_index (head_in gs) 2
 
 -- "Groups 1 to 62: words.": as many as the count says, and the unused groups after them
 abbrev pub words_in : List ℕ → List ℕ
@@ -58,17 +54,20 @@ words_in gs = take (count_in gs) (drop 1 gs)
 abbrev pub unused_in : List ℕ → List ℕ
 unused_in gs = drop (1 + count_in gs) (take 63 gs)
 
--- "Group 63": the check, by whichever total
+-- "Group 63: the sum of groups 0 to 62, wrapping at 64 bits."
+unfoldable pub check_of : List ℕ → ℕ
+check_of gs = total (take 63 gs) % 2 ^ 64
+
 abbrev pub check_in : List ℕ → ℕ
-check_in gs = get_or gs 63 0
+check_in gs = slice_index gs 63
 
 -- "Count is 62 in every block but the last, 1 to 62 there;"
 abbrev pub count_wrong : Bool → ℕ → Bool
-count_wrong last count = cond last (eqb count 0 || ltb 62 count) (not (eqb count 62))
+count_wrong last count = cond last (count == 0 || nat_lt 62 count) (not (count == 62))
 
 -- "words total at most 4,096 (else 17)": every block before block b has 62
 abbrev pub total_wrong : ℕ → ℕ → Bool
-total_wrong b count = ltb 4096 (62 * b + count)
+total_wrong b count = nat_lt 4096 (62 * b + count)
 
 -- "Unused groups are zero."
 abbrev pub unused_wrong : List ℕ → Bool
@@ -76,96 +75,74 @@ unused_wrong gs = not (all_zero (unused_in gs))
 
 -- 15: deck length 0, not a multiple of 512, or over 34,304
 abbrev pub length_wrong : ℕ → Bool
-length_wrong l = eqb l 0 || (not (eqb (l % 512) 0) || ltb 34304 l)
+length_wrong l = l == 0 || (not (l % 512 == 0) || nat_lt 34304 l)
 
 -- 16: block number not its place
 abbrev pub place_wrong : ℕ → List ℕ → Bool
-place_wrong b gs = not (eqb (number_in gs) b)
+place_wrong b gs = not (number_in gs == b)
 
 -- 17: count, reserved or unused bytes wrong, in block b of n
 abbrev pub shape_wrong : ℕ → ℕ → List ℕ → Bool
 shape_wrong n b gs =
-    count_wrong (eqb (b + 1) n) (count_in gs) || (total_wrong b (count_in gs) || (not (eqb (reserved_in gs) 0) || unused_wrong gs))
+    count_wrong (b + 1 == n) (count_in gs) || (total_wrong b (count_in gs) || (not (reserved_in gs == 0) || unused_wrong gs))
 
 -- 18: block check wrong
-abbrev pub check_wrong : Total → List ℕ → Bool
-check_wrong by gs = not (eqb (check_by by gs) (check_in gs))
+abbrev pub check_wrong : List ℕ → Bool
+check_wrong gs = not (check_of gs == check_in gs)
 
 -- 3 to 9, of a word at its own address
 unfoldable pub word_checks : ℕ → ℕ → List Check
 word_checks address word = fault_checks word address (line_of word)
 
 -- "16, 17, 18 and words 3 to 9", of block b of n
-unfoldable pub block_checks : Total → ℕ → ℕ → List ℕ → List Check
-block_checks by n b gs =
+unfoldable pub block_checks : ℕ → ℕ → List ℕ → List Check
+block_checks n b gs =
     (16, place_wrong b gs) ∷
     (17, shape_wrong n b gs) ∷
-    (18, check_wrong by gs) ∷
+    (18, check_wrong gs) ∷
     in_turn word_checks (62 * b) (words_in gs)
-
--- no block says that it has over 62 words
-abbrev pub Few : List ℕ → Type 0
-Few deck = Each (λ (gs : List ℕ). count_in gs ≤ 62) (blocks_of deck)
 
 -- the words of a deck, block by block
 unfoldable pub words_of : List ℕ → List ℕ
 words_of deck = joined (map words_in (blocks_of deck))
 
 -- "block by block 16, 17, 18 and words 3 to 9"
-abbrev pub deck_checks : Total → List ℕ → List Check
-deck_checks by deck = in_turn (block_checks by (length deck / 512)) 0 (blocks_of deck)
+abbrev pub deck_checks : List ℕ → List Check
+deck_checks deck = in_turn (block_checks (length deck / 512)) 0 (blocks_of deck)
 
 -- "The reader checks 15, then block by block 16, 17, 18 and words 3 to 9, then 19;"
-abbrev pub read_checks : Total → List ℕ → ℕ → List Check
-read_checks by deck room =
-    (15, length_wrong (length deck)) ∷ (deck_checks by deck ++ ((19, room_wrong (length (words_of deck)) room) ∷ []))
+abbrev pub read_checks : List ℕ → ℕ → List Check
+read_checks deck room =
+    (15, length_wrong (length deck)) ∷ (deck_checks deck ++ ((19, room_wrong (length (words_of deck)) room) ∷ []))
 
 -- "Accepted, it gives the number of words"
-unfoldable pub read_by : Total → List ℕ → ℕ → ReadIn
-read_by by deck room = answer (first (read_checks by deck room)) R.Refused (R.Words (length (words_of deck)))
+unfoldable pub read_of : List ℕ → ℕ → ReadIn
+read_of deck room = answer (first (read_checks deck room)) R.Refused (R.Words (length (words_of deck)))
 
 -- "and writes those and nothing past them"; "refused, it writes nothing."
-unfoldable pub words_by : Total → List ℕ → List ℕ → List ℕ
-words_by by deck words = answer (first (read_checks by deck (length words))) (λ n. words) (over (words_of deck) words)
-
--- "18 reads by the new rule": the second total
-abbrev pub read_of : List ℕ → ℕ → ReadIn
-read_of = read_by Second
-
-abbrev pub words_after : List ℕ → List ℕ → List ℕ
-words_after = words_by Second
-
--- "Decks under the old check are read by a named old reader only.": the first
-abbrev pub read_old_of : List ℕ → ℕ → ReadIn
-read_old_of = read_by First
-
-abbrev pub words_old_after : List ℕ → List ℕ → List ℕ
-words_old_after = words_by First
+unfoldable pub words_after : List ℕ → List ℕ → List ℕ
+words_after deck words = answer (first (read_checks deck (length words))) (λ n. words) (over (words_of deck) words)
 
 -- the block of at most 62 words at its place, as its groups
-abbrev pub sealed : Total → List ℕ → List ℕ
-sealed by gs = gs ++ (check_by by gs ∷ [])
+abbrev pub sealed : List ℕ → List ℕ
+sealed gs = gs ++ (check_of gs ∷ [])
 
-unfoldable pub block_by : Total → ℕ → List ℕ → List ℕ
-block_by by b ws = sealed by (head_of b (length ws) ∷ (ws ++ replicate (62 - length ws) 0))
+unfoldable pub block_of : ℕ → List ℕ → List ℕ
+block_of b ws = sealed (head_of b (length ws) ∷ (ws ++ replicate (62 - length ws) 0))
 
 -- how many blocks n words make
 abbrev pub block_count : ℕ → ℕ
 block_count n = (n + 61) / 62
 
-unfoldable pub blocks_by : Total → List ℕ → List (List ℕ)
-blocks_by by ws = placed (block_by by) 0 (pieces 62 (block_count (length ws)) ws)
+unfoldable pub blocks_for : List ℕ → List (List ℕ)
+blocks_for ws = placed block_of 0 (pieces 62 (block_count (length ws)) ws)
 
-unfoldable pub deck_by : Total → List ℕ → List ℕ
-deck_by by ws = joined (map bytes_of (blocks_by by ws))
-
--- the writer's: "From now on" the second total
-abbrev pub deck_of : List ℕ → List ℕ
-deck_of = deck_by Second
+unfoldable pub deck_of : List ℕ → List ℕ
+deck_of ws = joined (map bytes_of (blocks_for ws))
 
 -- 21: writer given no words or over 4,096
 abbrev pub words_wrong : ℕ → Bool
-words_wrong n = eqb n 0 || ltb 4096 n
+words_wrong n = n == 0 || nat_lt 4096 n
 
 -- "The writer checks 21, each word by 3 to 9, then 19,"
 abbrev pub write_checks : List ℕ → ℕ → List Check

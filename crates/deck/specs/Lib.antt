@@ -1,2 +1,1 @@
 pub mod Deck
-pub mod Exchange

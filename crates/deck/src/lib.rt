@@ -1,14 +1,12 @@
 // A deck of words: blocks of 512 bytes, each 64 groups of 8, high byte first.
-ghost use Rattle.std.specs.Prelude.{◌≡◌, min, ◌+◌, ◌*◌, ◌/◌, ◌<◌, ◌≤◌, length, take, drop, ◌++◌};
+ghost use Rattle.std.specs.Prelude.{◌≡◌, ◌+◌, ◌*◌, ◌/◌, ◌<◌, ◌≤◌, min, ◌++◌, length, take, drop};
 ghost use Rattle.digits.specs.Refusal.{first};
 ghost use Rattle.digits.specs.Lent.{over};
 ghost use Rattle.digits.specs.Lists.{in_turn};
 ghost use Rattle.digits.specs.Number.{digits_of, number_of};
-ghost use Rattle.totals.specs.declared.Total.TheVariants.{Second};
-ghost use Rattle.deck.specs.Deck.{groups_of, bytes_of, block_at, number_in, count_in, words_in, count_wrong, unused_wrong, length_wrong, shape_wrong, word_checks, block_checks, deck_checks, Few, words_of, read_by, words_by, read_of, words_after, read_old_of, words_old_after, block_by, block_count, deck_of, write_of, deck_after};
+ghost use Rattle.deck.specs.Deck.{groups_of, bytes_of, block_at, number_in, count_in, words_in, check_of, count_wrong, unused_wrong, length_wrong, shape_wrong, word_checks, block_checks, deck_checks, words_of, read_of, words_after, block_of, block_count, deck_of, write_of, deck_after};
 
 use digits::first_of;
-use totals::Total;
 
 #[derive(Drop)]
 pub enum ReadIn {
@@ -82,6 +80,19 @@ fn block_at(deck: &[u8], b: usize) -> [u64; 64]
     groups_of(&deck[at..end])
 }
 
+// The block check: the sum of groups 0 to 62, wrapping. Another may come to stand beside it.
+fn block_check(gs: [u64; 64]) -> u64
+    ensures { result ≡ check_of gs }
+{
+    let mut sum: u64 = 0;
+    let mut place: usize = 0;
+    while place < 63 {
+        sum = std::num::wrapping_add_u64(sum, gs[place]);
+        place += 1;
+    }
+    sum
+}
+
 fn number_in(gs: [u64; 64]) -> usize
     ensures { result ≡ number_in gs }
 {
@@ -146,9 +157,9 @@ fn words_fault(words: &[u64], start: usize) -> u8
 }
 
 // The first refusal of block `b` of `n`, or 0.
-fn block_fault(by: Total, gs: [u64; 64], b: usize, n: usize) -> u8
+fn block_fault(gs: [u64; 64], b: usize, n: usize) -> u8
     requires { (b < n) × (n ≤ 67) }
-    ensures { result ≡ first (block_checks by n b gs) }
+    ensures { result ≡ first (block_checks n b gs) }
 {
     if number_in(gs) != b {
         return 16;
@@ -156,7 +167,7 @@ fn block_fault(by: Total, gs: [u64; 64], b: usize, n: usize) -> u8
     if shape_wrong(gs, b, n) {
         return 17;
     }
-    if totals::block_check(by, gs) != gs[63] {
+    if block_check(gs) != gs[63] {
         return 18;
     }
     let end = 1 + count_in(gs);
@@ -164,14 +175,14 @@ fn block_fault(by: Total, gs: [u64; 64], b: usize, n: usize) -> u8
 }
 
 // The first refusal of a block, or 0.
-fn deck_fault(by: Total, deck: &[u8]) -> u8
+fn deck_fault(deck: &[u8]) -> u8
     requires { length deck.now ≤ 34304 }
-    ensures { result ≡ first (deck_checks by deck.now) }
+    ensures { result ≡ first (deck_checks deck.now) }
 {
     let n = deck.len() / 512;
     let mut b: usize = 0;
     while b < n {
-        let number = block_fault(by, block_at(deck, b), b, n);
+        let number = block_fault(block_at(deck, b), b, n);
         if number != 0 {
             return number;
         }
@@ -180,9 +191,9 @@ fn deck_fault(by: Total, deck: &[u8]) -> u8
     0
 }
 
-// The number of words of a deck of which no block says that it has over 62.
+// The number of words of a deck whose blocks are not refused.
 fn count_words(deck: &[u8]) -> usize
-    requires { (length deck.now ≤ 34304) × Few deck.now }
+    requires { (length deck.now ≤ 34304) × (first (deck_checks deck.now) ≡ 0) }
     ensures { result ≡ length (words_of deck.now) }
 {
     let n = deck.len() / 512;
@@ -207,9 +218,9 @@ fn put_words(gs: [u64; 64], words: &mut [u64], at: usize) -> usize
     next
 }
 
-// Puts the words of such a deck.
+// Puts the words of a deck whose blocks are not refused.
 fn put_all(deck: &[u8], words: &mut [u64])
-    requires deck_len_bound { (length deck.now ≤ 34304) × Few deck.now }
+    requires deck_len_bound { (length deck.now ≤ 34304) × (first (deck_checks deck.now) ≡ 0) }
     requires deck_in_bounds { length (words_of deck.now) ≤ length words.old }
     ensures { words.new ≡ over (words_of deck.now) words.old }
 {
@@ -229,14 +240,14 @@ fn length_wrong(length: usize) -> bool
 }
 
 // The number of words, which then stand at the front of `words`; or 15, then block by block 16, 17,
-// 18 by the total that is the check, and 3 to 9, then 19.
-fn read_by(by: Total, deck: &[u8], words: &mut [u64]) -> ReadIn
-    ensures { (result ≡ read_by by deck.now (length words.old)) × (words.new ≡ words_by by deck.now words.old) }
+// 18 and 3 to 9, then 19.
+pub fn read(deck: &[u8], words: &mut [u64]) -> ReadIn
+    ensures { (result ≡ read_of deck.now (length words.old)) × (words.new ≡ words_after deck.now words.old) }
 {
     if length_wrong(deck.len()) {
         return ReadIn::Refused(15);
     }
-    let number = deck_fault(by, deck);
+    let number = deck_fault(deck);
     if number != 0 {
         return ReadIn::Refused(number);
     }
@@ -248,29 +259,15 @@ fn read_by(by: Total, deck: &[u8], words: &mut [u64]) -> ReadIn
     ReadIn::Words(count)
 }
 
-// Decks under the check that `write` makes.
-pub fn read(deck: &[u8], words: &mut [u64]) -> ReadIn
-    ensures { (result ≡ read_of deck.now (length words.old)) × (words.new ≡ words_after deck.now words.old) }
-{
-    read_by(Total::Second, deck, words)
-}
-
-// Decks under the old check.
-pub fn read_old(deck: &[u8], words: &mut [u64]) -> ReadIn
-    ensures { (result ≡ read_old_of deck.now (length words.old)) × (words.new ≡ words_old_after deck.now words.old) }
-{
-    read_by(Total::First, deck, words)
-}
-
 // The block of at most 62 words, at the place `b`.
 fn block_of(words: &[u64], b: usize) -> [u64; 64]
     requires { (length words.now ≤ 62) × (b < 67) }
-    ensures { result ≡ block_by Second b words.now }
+    ensures { result ≡ block_of b words.now }
 {
     let mut gs = [0u64; 64];
     gs[0] = b as u64 * 0x1_0000_0000_0000 + words.len() as u64 * 0x1_0000_0000;
     digits::copy_words(words, &mut gs[1..63]);
-    gs[63] = totals::block_check(Total::Second, gs);
+    gs[63] = block_check(gs);
     gs
 }
 

@@ -1,10 +1,10 @@
-// What the lister prints of a deck, a line for each word, and what renew prints of an old one, a new deck; or a refusal.
+// The lister's text: a line for each word of a deck, or a refusal.
 ghost use Rattle.std.specs.Prelude.{◌≡◌, ◌*◌, ◌≤◌, length};
 ghost use Rattle.digits.specs.Lent.{over};
-ghost use Rattle.listing.specs.Listing.{text_line, lines_of, refusal_of, text_of, renewed_of, as_text};
+ghost use Rattle.listing.specs.Listing.{text_line, lines_of, refusal_of, text_of};
 ghost use Rattle.text.specs.Text.{put_of, room_after};
 
-use deck::{ReadIn, Writing};
+use deck::ReadIn;
 use text::{Written, put_hexadecimal};
 
 // The line of a word at its address.
@@ -60,27 +60,6 @@ pub fn print(deck: &[u8], room: &mut [u8]) -> Written
     let read = deck::read(deck, &mut words);
     match read {
         ReadIn::Words(count) => list(&words[0..count], room),
-        ReadIn::Refused(number) => refusal(number, room),
-    }
-}
-
-fn as_text(answer: Writing) -> Written
-    ensures { result ≡ as_text answer }
-{
-    match answer {
-        Writing::Bytes(size) => Written::Text(size),
-        Writing::Refused(number) => Written::Refused(number),
-    }
-}
-
-// What is printed of an old deck, or 19.
-pub fn renew(old: &[u8], room: &mut [u8]) -> Written
-    ensures { (result ≡ put_of (renewed_of old.now) (length room.old)) × (room.new ≡ room_after (renewed_of old.now) room.old) }
-{
-    let mut words = [0u64; 4096];
-    let read = deck::read_old(old, &mut words);
-    match read {
-        ReadIn::Words(count) => as_text(deck::write(&words[0..count], room)),
         ReadIn::Refused(number) => refusal(number, room),
     }
 }

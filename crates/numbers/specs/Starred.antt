@@ -1,12 +1,9 @@
--- "Numbers to check by. Starred ones form the proved table."; and the two checks of the deck of P. Assumes nothing.
-use Rattle.std.specs.Prelude.{ℕ, ◌≡◌, Bool, true, false, List, [], ◌∷◌, get_or}
+-- "Numbers to check by. Starred ones form the proved table." Assumes nothing.
+use Rattle.std.specs.Prelude.{ℕ, ◌≡◌, Bool, true, false, List, [], ◌∷◌}
 use Rattle.word.specs.Word.{packed, taken_apart}
 use Rattle.word.specs.declared.Fields.{Fields}
 use Rattle.word.specs.declared.Apart.TheVariants as A
 use Rattle.word.specs.declared.Packed.TheVariants as P
-use Rattle.totals.specs.declared.Total.{Total}
-use Rattle.totals.specs.declared.Total.TheVariants.{First, Second}
-use Rattle.deck.specs.Deck.{block_by}
 use Rattle.adder.specs.Adder.{sum_of}
 use Rattle.adder.specs.declared.Controls.{Controls}
 
@@ -21,8 +18,6 @@ pub data Row : Type 0 where
   gates : ℕ → ℕ → ℕ → Row
   -- A and B by the controls give 1BC and AC
   carries : ℕ → ℕ → Controls → Bool → Bool → Row
-  -- the deck of the words, under the check by the total, has the header and the check
-  seals : Total → List ℕ → ℕ → ℕ → Row
 
 -- all of A and all of B, by CV, CC and S0
 abbrev all : ℕ → ℕ → Bool → Controls
@@ -32,14 +27,13 @@ all cv cc s0 = record { cf = 3; cg = 3; cv = cv; cc = cc; s0 = s0; s3 = false }
 abbrev alone : ℕ → Controls
 alone cf = record { cf = cf; cg = 0; cv = 0; cc = 0; s0 = false; s3 = false }
 
--- by the definitions that the contracts of `pack`, `take_apart`, `add`, `read`, `read_old` and `write` cite
+-- by the definitions that the contracts of `pack`, `take_apart` and `add` cite
 abbrev pub Holds : Row → Type 0
 Holds (packs f address word) = packed f address ≡ P.Word word
 Holds (refused word address number) = taken_apart word address ≡ A.Refused number
 Holds (adds a b c result ac) = ((sum_of a b c).result ≡ result) × ((sum_of a b c).ac ≡ ac)
 Holds (gates cf a result) = (sum_of a 0 (alone cf)).result ≡ result
 Holds (carries a b c one ac) = ((sum_of a b c).one_bc ≡ one) × ((sum_of a b c).ac ≡ ac)
-Holds (seals by words header check) = (get_or (block_by by 0 words) 0 0 ≡ header) × (get_or (block_by by 0 words) 63 0 ≡ check)
 
 abbrev binary : Controls
 binary = all 0 0 false
@@ -84,6 +78,4 @@ rows =
     gates 6 0x4B 0xB0 ∷  -- "by XH is B0"
     carries 0x7F 0x01 binary true false ∷  -- "7F + 01: 1BC 1, AC 0"
     adds 0x00 0x00 (all 1 0 false) 0xFF false ∷  -- "00 with 00 complemented, +0 = FF, AC 0"
-    seals Second (0x00018093988E6801 ∷ []) 0x0000000100000000 0x005D23FDF27D303E ∷  -- 02, request 4: "for the deck of P, 005D23FDF27D303E"
-    seals First (0x00018093988E6801 ∷ []) 0x0000000100000000 0x00018094988E6801 ∷  -- "The deck of word P": its old check
     []

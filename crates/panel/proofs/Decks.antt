@@ -5,8 +5,7 @@ use mathlib.Core.List.{List, map}
 use native.Mathlib.Omega.{arith}
 use lib.ListN.{length, take, drop, length-append, length-take, length-drop}
 use Rattle.digits.specs.Lists.{pieces, joined}
-use Rattle.totals.specs.declared.Total.{Total}
-use Rattle.deck.specs.Deck.{groups_of, blocks_of, words_in, words_of, read_by, write_of}
+use Rattle.deck.specs.Deck.{groups_of, blocks_of, words_in, words_of, read_of, write_of}
 use Rattle.deck.specs.declared.ReadIn.TheVariants as R
 use Rattle.deck.specs.declared.Writing.TheVariants as W
 use Rattle.deck.proofs.Groups.{length_groups}
@@ -27,9 +26,9 @@ words_few : (deck : List ℕ) → length (words_of deck) ≤ length deck / 512 *
 unfolding words_of blocks_of
 words_few deck = blocks_few (length deck / 512) deck
 
-pub read_few : (by : Total) (deck : List ℕ) (room n : ℕ) → read_by by deck room ≡ R.Words n → n ≤ 4221
-read_few by deck room n e =
-    let r = was_read by deck room n e in
+pub read_few : (deck : List ℕ) (room n : ℕ) → read_of deck room ≡ R.Words n → n ≤ 4221
+read_few deck room n e =
+    let r = was_read deck room n e in
     let h = (sized (length deck) r.length_right).most in
     let k = words_few deck in
     let c = r.count in

@@ -38,7 +38,6 @@ use Rattle.panel.proofs.panel_add_decimal_in.Reads as add-decimal-in
 use Rattle.panel.proofs.panel_add_signed.Reads as add-signed
 use Rattle.panel.proofs.panel_sub_signed.Reads as sub-signed
 use Rattle.panel.proofs.panel_read_deck.Reads as read-deck
-use Rattle.panel.proofs.panel_read_old_deck.Reads as read-old-deck
 use Rattle.panel.proofs.panel_write_deck.Reads as write-deck
 use Rattle.panel.proofs.panel_trap.Reads as trap
 use Rattle.panel.proofs.panel_next_sum.Reads as next-sum
@@ -159,9 +158,6 @@ sub_signed_sole κs args r q x y a b = sole a b
 
 pub read_deck_sole : (κs : _) (args : _) (r q : ℕ) (x y : _) → read-deck.Post κs args r x → read-deck.Post κs args q y → answered r x.1.0.now ≡ answered q y.1.0.now
 read_deck_sole κs args r q x y a b = sole a b
-
-pub read_old_deck_sole : (κs : _) (args : _) (r q : ℕ) (x y : _) → read-old-deck.Post κs args r x → read-old-deck.Post κs args q y → answered r x.1.0.now ≡ answered q y.1.0.now
-read_old_deck_sole κs args r q x y a b = sole a b
 
 pub write_deck_sole : (κs : _) (args : _) (r q : ℕ) (x y : _) → write-deck.Post κs args r x → write-deck.Post κs args q y → answered r x.1.0.now ≡ answered q y.1.0.now
 write_deck_sole κs args r q x y a b = sole a b

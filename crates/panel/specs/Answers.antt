@@ -31,7 +31,7 @@ use Rattle.apsp.specs.Entry.{signed_start, signed_of}
 use Rattle.session.specs.Turn.{turn_of}
 use Rattle.session.specs.Adding.{fenced_add}
 use Rattle.digits.specs.Lent.{over}
-use Rattle.deck.specs.Deck.{read_of, words_after, read_old_of, words_old_after, write_of, deck_after}
+use Rattle.deck.specs.Deck.{read_of, words_after, write_of, deck_after}
 use Rattle.deck.specs.declared.ReadIn.{ReadIn}
 use Rattle.deck.specs.declared.ReadIn.TheVariants as R
 use Rattle.deck.specs.declared.Writing.{Writing}
@@ -254,10 +254,6 @@ write_number (W.Refused number) = 65536 * number
 
 unfoldable pub read_deck_call : List ℕ → List ℕ → Answered ℕ
 read_deck_call deck words = answered (read_number (read_of deck (length words))) (words_after deck words)
-
--- "The old reader takes decks under the old check alone."
-unfoldable pub read_old_deck_call : List ℕ → List ℕ → Answered ℕ
-read_old_deck_call deck words = answered (read_number (read_old_of deck (length words))) (words_old_after deck words)
 
 unfoldable pub write_deck_call : List ℕ → List ℕ → Answered ℕ
 write_deck_call words deck = answered (write_number (write_of words (length deck))) (deck_after words deck)

@@ -1,11 +1,10 @@
 // The panel's C interface, include/panel.h: bytes in, bytes out, over the libraries.
 mod fields;
 
-ghost use Rattle.std.specs.Prelude.{◌≡◌, ℕ, ◌≤◌, length};
+ghost use Rattle.std.specs.Prelude.{◌≡◌, ◌≤◌, length};
 ghost use Rattle.machine.specs.Cycle.{outcome};
-ghost use Rattle.deck.specs.declared.ReadIn.TheVariants as R;
 ghost use Rattle.session.specs.Opening.{open_of};
-ghost use Rattle.panel.specs.Answers.{coded, counted, answered, take_apart_call, pack_call, called, reading_of, answer_cycle, cycle_call, turn_call, ending_code, record_after, run_call, placed, trap_call, next_sum_call, started, start_call, start_signed_call, handed, shipped_call, shipped_signed_call, added_code, add_decimal_call, add_decimal_in_call, add_signed_call, sub_signed_call, read_number, read_deck_call, read_old_deck_call, write_deck_call, read_signed_call, write_signed_call};
+ghost use Rattle.panel.specs.Answers.{coded, counted, answered, take_apart_call, pack_call, called, reading_of, answer_cycle, cycle_call, turn_call, ending_code, record_after, run_call, placed, trap_call, next_sum_call, started, start_call, start_signed_call, handed, shipped_call, shipped_signed_call, added_code, add_decimal_call, add_decimal_in_call, add_signed_call, sub_signed_call, read_deck_call, write_deck_call, read_signed_call, write_signed_call};
 ghost use Rattle.digits.specs.Lent.{over};
 ghost use Rattle.channels.specs.Channels.{record_length, saved, worked};
 
@@ -446,31 +445,15 @@ pub extern "C" fn panel_sub_signed(
     added_code(apsp::add(main, local, first, second, length, true))
 }
 
-// The count of words, or 65536 * refusal number: no deck has as many words as that.
-fn read_number(read: ReadIn) -> u32
-    requires { (count : ℕ) → read ≡ R.Words count → count ≤ 4221 }
-    ensures { result ≡ read_number read }
-{
-    match read {
-        ReadIn::Words(count) => count as u32,
-        ReadIn::Refused(number) => 65536 * number as u32,
-    }
-}
-
-// Deck to words.
+// Deck to words: the count of words, or 65536 * refusal number.
 #[unsafe(no_mangle)]
 pub extern "C" fn panel_read_deck(deck: &[u8], words: &mut [u64]) -> u32
     ensures { answered result words.new ≡ read_deck_call deck.now words.old }
 {
-    read_number(deck::read(deck, words))
-}
-
-// Old deck to words: decks under the old check alone.
-#[unsafe(no_mangle)]
-pub extern "C" fn panel_read_old_deck(deck: &[u8], words: &mut [u64]) -> u32
-    ensures { answered result words.new ≡ read_old_deck_call deck.now words.old }
-{
-    read_number(deck::read_old(deck, words))
+    match deck::read(deck, words) {
+        ReadIn::Words(count) => count as u32,
+        ReadIn::Refused(number) => 65536 * number as u32,
+    }
 }
 
 // Words to deck: the count of bytes, or 65536 * refusal number.

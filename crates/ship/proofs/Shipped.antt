@@ -8,7 +8,6 @@ use lib.ListN.{length}
 use Rattle.digits.specs.Refusal.{first}
 use Rattle.digits.proofs.Copies.{over_full}
 use Rattle.word.specs.Word.{packed, in_width}
-use Rattle.totals.specs.declared.Total.TheVariants.{Second}
 use Rattle.deck.specs.Deck.{word_checks, write_checks, deck_of, deck_after}
 use Rattle.deck.proofs.Answers.{write_accepted}
 use Rattle.deck.proofs.Written.{length_deck}
@@ -20,19 +19,19 @@ use Rattle.ship.specs.Readings.{readings}
 
 pub add_fits : OneBlock shipped
 unfolding OneBlock word_checks shipped packed in_width ones
-add_fits = (refl, length_deck Second shipped)
+add_fits = (refl, length_deck shipped)
 
 pub apsp_fits : OneBlock signed_words
 unfolding OneBlock word_checks signed_words packed in_width ones
-apsp_fits = (refl, length_deck Second signed_words)
+apsp_fits = (refl, length_deck signed_words)
 
 pub trap_fits : OneBlock lesson
 unfolding OneBlock word_checks lesson shipped packed in_width ones
-trap_fits = (refl, length_deck Second lesson)
+trap_fits = (refl, length_deck lesson)
 
 pub readings_fit : OneBlock readings
 unfolding OneBlock word_checks readings packed in_width ones
-readings_fit = (refl, length_deck Second readings)
+readings_fit = (refl, length_deck readings)
 
 pub written : (words room : List ℕ) → OneBlock words → length room ≡ 512 → deck_after words room ≡ deck_of words
 unfolding OneBlock

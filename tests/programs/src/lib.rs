@@ -1,6 +1,6 @@
 //! The built programs and the linked panel, run as a user runs them. What they must answer comes from the second engine.
 
-use second::deck::{self, block_check, write_deck, Check, BLOCK, LONGEST};
+use second::deck::{block_check, write_deck, BLOCK, LONGEST};
 use second::shipped::SHIPPED;
 use std::fs::File;
 use std::io::{Read, Write};
@@ -52,7 +52,7 @@ pub fn run(command: &mut Command, input: &[u8]) -> Said {
 
 /// Proves the programs, where they are not proved from the present files, so that no command has to say so.
 static READY: LazyLock<()> = LazyLock::new(|| {
-    for name in ["lister", "renew", "ship", "board"] {
+    for name in ["lister", "ship", "board"] {
         let mut command = Command::new(root().join("tools/proved"));
         let said = run(command.arg(root().join("target/bin").join(name)).args(["rt", "check", name]), &[]);
         assert_eq!(said.status, Some(0), "{}", said.err);
@@ -106,20 +106,11 @@ pub fn deck_of(words: &[u64]) -> Vec<u8> {
     deck
 }
 
-/// The deck of these words, each block under this check: document 01's, or the writer's own.
-pub fn deck_under(check: Check, words: &[u64]) -> Vec<u8> {
-    let mut deck = deck_of(words);
-    deck.chunks_mut(BLOCK).for_each(|block| deck::mend(block, check));
-    deck
-}
-
 /// The block's check made right again after a change.
 pub fn mend(deck: &mut [u8], block: usize) {
-    mend_under(block_check, deck, block);
-}
-
-pub fn mend_under(check: Check, deck: &mut [u8], block: usize) {
-    deck::mend(&mut deck[BLOCK * block..BLOCK * (block + 1)], check);
+    let bytes = &mut deck[BLOCK * block..BLOCK * (block + 1)];
+    let groups = std::array::from_fn(|n| u64::from_be_bytes(bytes[8 * n..8 * n + 8].try_into().expect("a group")));
+    bytes[504..].copy_from_slice(&block_check(&groups).to_be_bytes());
 }
 
 /// Whether the command is on the path.

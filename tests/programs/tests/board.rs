@@ -7,11 +7,11 @@ mod common;
 use common::fences::{self, draw_fences, draw_seated, fence};
 use common::{one_of, running_word, Bench, Codes, SEVEN, STOP};
 use programs::{
-    breaking, command, deck_of, deck_under, failing_reads, file, folder, lesson, mend, root, run, said, said_to,
-    said_to_full, typed_in, Said,
+    breaking, command, deck_of, failing_reads, file, folder, lesson, mend, root, run, said, said_to, said_to_full,
+    typed_in, Said,
 };
 use second::board::{self, in_words, Trap, Two, View};
-use second::deck::{old_check, words_of, BLOCK, LONGEST};
+use second::deck::{words_of, BLOCK, LONGEST};
 use second::panel::STATE;
 use second::random::Random;
 use second::reading::Reading::{self, Basic, Compatibility};
@@ -2251,8 +2251,7 @@ fn deck_with(codes: Codes, bits: u64) -> Vec<u8> {
 fn a_refused_deck_is_told_in_words() {
     let given = Files::endless("board_refused");
     let here = folder("board_refused_decks");
-    let words = common::draw_words(&mut Random::new(107), 3 * 62);
-    let three = deck_of(&words);
+    let three = deck_of(&common::draw_words(&mut Random::new(107), 3 * 62));
     let with = |at: usize, byte: u8| {
         let mut deck = three.clone();
         deck[at] = byte;
@@ -2260,7 +2259,7 @@ fn a_refused_deck_is_told_in_words() {
     };
     let long = vec![0; LONGEST + BLOCK];
     let module: Codes = &[("CL", 2), ("CA", 4), ("CM", 1)];
-    let decks: [(u8, Vec<u8>); 18] = [
+    let decks: [(u8, Vec<u8>); 17] = [
         (3, turned(63)),
         (3, turned(55)),
         (4, turned(48)),
@@ -2279,7 +2278,6 @@ fn a_refused_deck_is_told_in_words() {
         (17, with(2 * BLOCK + 3, 63)),
         (17, with(7, 1)),
         (18, with(3 * BLOCK - 1, three[3 * BLOCK - 1] ^ 1)),
-        (18, deck_under(old_check, &words)),
     ];
     for (number, deck) in decks {
         assert_eq!(words_of(&deck), Err(number), "the second engine");
@@ -2432,12 +2430,12 @@ fn is_shown(printed: &[&str], shown: &[&str]) -> bool {
 }
 
 /// What a line of a page may begin with, to be typed as it stands. Others, as those of a compiler, are left alone.
-const TYPED: [&str; 7] = ["./board", "./ship", "./lister", "./renew", "printf ", "head ", "("];
+const TYPED: [&str; 6] = ["./board", "./ship", "./lister", "printf ", "head ", "("];
 
 /// A folder of a page's own, with the root commands, and nothing that the page has not made.
 fn desk(page: &str) -> PathBuf {
     let here = folder(&format!("pages/{page}"));
-    for name in ["board", "ship", "lister", "renew"] {
+    for name in ["board", "ship", "lister"] {
         symlink(root().join(name), here.join(name)).expect("a link");
     }
     here

@@ -4,8 +4,7 @@
 #[path = "../../second/tests/common/mod.rs"]
 mod common;
 
-use programs::{file, folder, lesson, mend_under, root, run, there, Said};
-use second::deck::{old_check, BLOCK};
+use programs::{file, folder, lesson, root, run, there, Said};
 use second::panel;
 use second::word::build;
 use std::path::PathBuf;
@@ -190,32 +189,6 @@ fences 10:30 and 2F:A0: 32
     assert_eq!(one_core(), text);
 }
 
-/// What it prints of the shipped words as a deck.
-fn cards() -> String {
-    let (words, deck) = (&mut [0; 64], &mut [0; BLOCK]);
-    let count = panel::shipped(words) as usize;
-    assert_eq!(panel::write_deck(&words[..count], deck), BLOCK as u64);
-    let mut text = format!("the deck of the shipped words: {} words\n", panel::read_deck(deck, words));
-    let good = *deck;
-    deck.copy_within(24..32, 16);
-    deck[24..32].copy_from_slice(&good[16..24]);
-    text += &format!("words 1 and 2 exchanged: refused by {}\n", panel::read_deck(deck, words) >> 16);
-    *deck = good;
-    mend_under(old_check, deck, 0);
-    let [refused, read] = [panel::read_deck(deck, words) >> 16, panel::read_old_deck(deck, words)];
-    text + &format!("the old deck: refused by {refused}, and by the old reader {read} words\n")
-}
-
-/// The same as a maker reads it.
-#[test]
-fn cards_by_hand() {
-    let text = "the deck of the shipped words: 21 words
-words 1 and 2 exchanged: refused by 18
-the old deck: refused by 18, and by the old reader 21 words
-";
-    assert_eq!(cards(), text);
-}
-
 fn shows_the_example(said: &Said) {
     let text = [
         cycle_of_p(),
@@ -228,7 +201,6 @@ fn shows_the_example(said: &Said) {
         broken_into(),
         two_readings(),
         one_core(),
-        cards(),
     ]
     .concat();
     assert_eq!((said.text(), said.status), (text, Some(0)), "{}", said.err);
@@ -311,7 +283,6 @@ int main() {
     std::printf(\"%u \", panel_next_sum(words, 21, state, PANEL_STATE, work, PANEL_WORK));
     std::printf(\"%u \", unsigned(panel_add_decimal(main, 1, local, 1, 0, 0, 1, 0) / 256));
     std::printf(\"%u \", panel_read_deck(bytes, 0, words, 1) / 65536);
-    std::printf(\"%u \", panel_read_old_deck(bytes, 18, words, 1) / 65536);
     std::printf(\"%u \", panel_write_deck(words, 0, bytes, 1) / 65536);
     std::printf(\"%u \", panel_read_signed(bytes, 8, number, 1));
     std::printf(\"%u \", panel_write_signed(1000000000000000, bytes, 8));
@@ -333,7 +304,7 @@ int main() {
 fn gpp_links_every_function() {
     let source = file(&folder("gpp_source"), "all.cpp", ALL.as_bytes());
     for said in linked("g++", &source) {
-        let text = "19 19 1 19 1 1 15 15 21 26 27 1 12 30 32 32 13 0 21 0 55\n";
+        let text = "19 19 1 19 1 1 15 21 26 27 1 12 30 32 32 13 0 21 0 55\n";
         assert_eq!((said.text().as_str(), said.status), (text, Some(0)), "{}", said.err);
     }
 }

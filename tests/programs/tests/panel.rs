@@ -4,7 +4,6 @@
 #[path = "../../second/tests/common/mod.rs"]
 mod common;
 
-use common::decks::{exchanged, is_odd, words_under_both};
 use common::fences::{
     self, board_at, draw_fences, draw_seated, fence, in_fence, in_the_gap, in_the_others, main_address, opens_by_bytes,
     reading_at, refused, sizes_fit, writes, writing_at, Order, Session, Summed, EDGES, JUST_FIT, MAIN_BY, MAX,
@@ -14,8 +13,8 @@ use common::{
     any_word, bench_of, chosen_numbers, each_occurs, lent, lent_of, lent_to_go_on, one_of, Bench, Kind, Lent, LEAST,
     MOST, PA_BIT, PC_BIT, PN_BIT, PS_BIT, SEVEN,
 };
-use programs::{deck_of, deck_under, folder, lesson, mend_under, root, run, Said};
-use second::deck::{block_check, old_check, Check, BLOCK, LONGEST};
+use programs::{folder, lesson, root, run, Said};
+use second::deck::{block_check, write_deck, BLOCK, LONGEST};
 use second::panel::{self, BAD_DIGIT, RAN, REFUSED, SPENT, STATE, STOPPED, SUMMED};
 use second::random::Random;
 use second::session::Fence;
@@ -98,31 +97,6 @@ impl Operation {
     }
 }
 
-/// A reader of decks, the old one by document 01's check.
-#[derive(Clone, Copy, Debug)]
-enum Reader {
-    New,
-    Old,
-}
-
-const READERS: [Reader; 2] = [Reader::New, Reader::Old];
-
-impl Reader {
-    fn check(self) -> Check {
-        match self {
-            Reader::New => block_check,
-            Reader::Old => old_check,
-        }
-    }
-
-    fn read(self, deck: &[u8], words: &mut [u64]) -> u64 {
-        match self {
-            Reader::New => panel::read_deck(deck, words),
-            Reader::Old => panel::read_old_deck(deck, words),
-        }
-    }
-}
-
 /// A call with all it is lent.
 #[derive(Clone, Debug)]
 enum Call {
@@ -131,7 +105,7 @@ enum Call {
     Cycle { reading: u8, store: Vec<u64>, main: Vec<u8>, local: Vec<u8>, state: Vec<u8> },
     Run { reading: u8, store: Vec<u64>, main: Vec<u8>, local: Vec<u8>, state: Vec<u8>, budget: u32 },
     Sum { operation: Operation, main: Vec<u8>, local: Vec<u8>, first: usize, second: usize, length: usize },
-    ReadDeck { reader: Reader, deck: Vec<u8>, words: Vec<u64> },
+    ReadDeck { deck: Vec<u8>, words: Vec<u64> },
     WriteDeck { words: Vec<u64>, deck: Vec<u8> },
     NextSum { store: Vec<u64>, state: Vec<u8>, work: Vec<u8> },
     Start { program: Program, first: u16, second: u16, length: u8, on: u8, state: Vec<u8> },
@@ -217,8 +191,7 @@ impl Call {
                 let lent = called(number).bytes(main).bytes(local).numbers(places);
                 lent.numbers(carry.map(u64::from)).fences(within.as_slice())
             }
-            Call::ReadDeck { reader: Reader::New, deck, words } => called(5).bytes(deck).words(words),
-            Call::ReadDeck { reader: Reader::Old, deck, words } => called(20).bytes(deck).words(words),
+            Call::ReadDeck { deck, words } => called(5).bytes(deck).words(words),
             Call::WriteDeck { words, deck } => called(6).words(words).bytes(deck),
             Call::NextSum { store, state, work } => called(7).words(store).bytes(state).bytes(work),
             Call::Start { program, first, second, length, on, state } => {
@@ -255,7 +228,7 @@ impl Call {
             Call::Sum { operation, main, local, first, second, length } => {
                 operation.make(main, local, *first, *second, *length)
             }
-            Call::ReadDeck { reader, deck, words } => reader.read(deck, words),
+            Call::ReadDeck { deck, words } => panel::read_deck(deck, words),
             Call::WriteDeck { words, deck } => panel::write_deck(words, deck),
             Call::NextSum { store, state, work } => panel::next_sum(store, state, work),
             Call::Start { program, first, second, length, on, state } => {
@@ -284,7 +257,7 @@ impl Call {
                 message.wide(store).elements(main).elements(local).elements(state)
             }
             Call::Sum { main, local, .. } => message.elements(main).elements(local),
-            Call::ReadDeck { deck, words, .. } => message.elements(deck).wide(words),
+            Call::ReadDeck { deck, words } => message.elements(deck).wide(words),
             Call::WriteDeck { words, deck } => message.wide(words).elements(deck),
             Call::NextSum { store, state, work } => message.wide(store).elements(state).elements(work),
             Call::Start { state, .. } | Call::Trap { state, .. } => message.elements(state),
@@ -1126,14 +1099,26 @@ fn every_byte_by_every_other_with_signs() {
     }
 }
 
-const WORD_COUNTS: [usize; 8] = [1, 2, 61, 62, 63, 124, 125, 200];
-
-fn draw_deck(random: &mut Random, check: Check, words: usize) -> Vec<u8> {
-    deck_under(check, &common::draw_words(random, words))
+/// The check of a block made right again.
+fn mend(deck: &mut [u8], block: usize) {
+    let Some(bytes) = deck.get_mut(BLOCK * block..BLOCK * (block + 1)) else {
+        return;
+    };
+    let groups = std::array::from_fn(|n| u64::from_be_bytes(bytes[8 * n..8 * n + 8].try_into().expect("a group")));
+    bytes[504..].copy_from_slice(&block_check(&groups).to_be_bytes());
 }
 
-/// A byte of the deck's first block, in its head, its words, its unused groups or its check, and mended under a check or not.
-fn damage(random: &mut Random, deck: &mut [u8], checks: [Option<Check>; 4]) {
+const WORD_COUNTS: [usize; 8] = [1, 2, 61, 62, 63, 124, 125, 200];
+
+fn deck_of(random: &mut Random, words: usize) -> Vec<u8> {
+    let mut deck = vec![0; LONGEST];
+    let length = write_deck(&common::draw_words(random, words), &mut deck).expect("good words");
+    deck.truncate(length);
+    deck
+}
+
+/// A byte of the deck's first block, in its head, its words, its unused groups or its check, and mended or not.
+fn damage(random: &mut Random, deck: &mut [u8]) {
     let at = match random.below(4) {
         0 => random.below(8),
         1 => 8 + random.below(24),
@@ -1141,86 +1126,36 @@ fn damage(random: &mut Random, deck: &mut [u8], checks: [Option<Check>; 4]) {
         _ => 504 + random.below(8),
     };
     deck[at as usize] ^= 1 << random.below(8);
-    if let Some(check) = one_of(random, &checks) {
-        mend_under(check, deck, 0);
+    if random.below(2) == 0 {
+        mend(deck, 0);
     }
-}
-
-/// A deck that is mostly under the reader's check, whole or not, and a room for it.
-fn draw_reading(random: &mut Random, reader: Reader) -> Call {
-    let words = one_of(random, &WORD_COUNTS);
-    let check = one_of(random, &[reader, reader, reader, reader, reader, Reader::New, Reader::Old]).check();
-    let mut deck = draw_deck(random, check, words);
-    match random.below(8) {
-        0..=3 => damage(random, &mut deck, [None, Some(reader.check()), Some(block_check), Some(old_check)]),
-        4 => deck.truncate(deck.len() - one_of(random, &[1, 8, 511, 512])),
-        _ => (),
-    }
-    let room = one_of(random, &[words, words, words + 1, words.saturating_sub(1), 0, 4096]);
-    Call::ReadDeck { reader, deck, words: (0..room).map(|_| random.next()).collect() }
 }
 
 #[test]
 fn decks_are_read() {
     let random = &mut Random::new(97);
-    for reader in READERS {
-        let mut calls: Vec<Call> = (0..3000).map(|_| draw_reading(random, reader)).collect();
-        for (words, room) in [(4096, 4096), (4096, 4095), (4095, 5000)] {
-            let deck = draw_deck(random, reader.check(), words);
-            calls.push(Call::ReadDeck { reader, deck, words: vec![7; room] });
-        }
-        let mut long = draw_deck(random, reader.check(), 4096);
-        long.resize(LONGEST + BLOCK, 0);
-        calls.push(Call::ReadDeck { reader, deck: long, words: vec![7; 5000] });
-        let answers = agree(&calls);
-        assert!(refusals(&answers, 16).is_superset(&BTreeSet::from([3, 5, 6, 7, 15, 16, 17, 18, 19])));
-        assert!(answers.contains(&4096));
+    let mut calls: Vec<Call> = (0..3000)
+        .map(|_| {
+            let words = one_of(random, &WORD_COUNTS);
+            let mut deck = deck_of(random, words);
+            match random.below(8) {
+                0..=3 => damage(random, &mut deck),
+                4 => deck.truncate(deck.len() - one_of(random, &[1, 8, 511, 512])),
+                _ => (),
+            }
+            let room = one_of(random, &[words, words, words + 1, words.saturating_sub(1), 0, 4096]);
+            Call::ReadDeck { deck, words: (0..room).map(|_| random.next()).collect() }
+        })
+        .collect();
+    for (words, room) in [(4096, 4096), (4096, 4095), (4095, 5000)] {
+        calls.push(Call::ReadDeck { deck: deck_of(random, words), words: vec![7; room] });
     }
-}
-
-/// What both readers answer to a deck, with room for its words.
-fn read_by_both(decks: &[Vec<u8>]) -> Vec<u64> {
-    let call = |deck: &Vec<u8>, reader| Call::ReadDeck { reader, deck: deck.clone(), words: vec![7; 4096] };
-    agree(&decks.iter().flat_map(|deck| READERS.map(|reader| call(deck, reader))).collect::<Vec<Call>>())
-}
-
-#[test]
-fn a_reader_takes_decks_under_its_own_check_alone() {
-    let random = &mut Random::new(257);
-    for words in WORD_COUNTS.into_iter().chain([4095, 4096]) {
-        let decks = READERS.map(|reader| draw_deck(random, reader.check(), words));
-        assert_eq!(read_by_both(&decks), [words as u64, 65536 * 18, 65536 * 18, words as u64]);
-    }
-    assert_eq!(read_by_both(&[deck_of(&words_under_both())]), [10, 10]);
-}
-
-/// Two addresses of one block.
-fn draw_addresses(random: &mut Random, words: usize) -> [usize; 2] {
-    loop {
-        let [one, other] = [0; 2].map(|_| random.below(words as u64) as usize);
-        if one != other && one / 62 == other / 62 {
-            return [one, other];
-        }
-    }
-}
-
-/// The old reader takes them, or refuses them by 5 where their addresses differ in parity.
-#[test]
-fn exchanged_words_are_refused_by_18() {
-    let random = &mut Random::new(263);
-    let (mut calls, mut expected) = (Vec::new(), Vec::new());
-    for _ in 0..1500 {
-        let words = one_of(random, &WORD_COUNTS[1..]);
-        let (drawn, [one, other]) = (common::draw_words(random, words), draw_addresses(random, words));
-        let by_sum = if is_odd(one) == is_odd(other) { words as u64 } else { 65536 * 5 };
-        for (reader, answer) in READERS.into_iter().zip([65536 * 18, by_sum]) {
-            let deck = exchanged(&deck_under(reader.check(), &drawn), [one, other]);
-            calls.push(Call::ReadDeck { reader, deck, words: vec![7; 200] });
-            expected.push(answer);
-        }
-    }
-    assert_eq!(agree(&calls), expected);
-    assert!([62, 200, 65536 * 5].iter().all(|answer| expected.contains(answer)));
+    let mut long = deck_of(random, 4096);
+    long.resize(LONGEST + BLOCK, 0);
+    calls.push(Call::ReadDeck { deck: long, words: vec![7; 5000] });
+    let answers = agree(&calls);
+    assert!(refusals(&answers, 16).is_superset(&BTreeSet::from([3, 5, 6, 7, 15, 16, 17, 18, 19])));
+    assert!(answers.contains(&4096));
 }
 
 #[test]

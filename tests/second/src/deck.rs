@@ -19,29 +19,9 @@ fn groups_of(block: &[u8]) -> Groups {
     })
 }
 
-/// What group 63 of a block must be, from groups 0 to 62.
-pub type Check = fn(&[u64; 64]) -> u64;
-
-/// After each group it is added to a first total, and that total to a second, which is the check: a group counts the more
-/// the earlier it stands, so that words exchanged are seen.
+/// The sum of groups 0 to 62, wrapping.
 pub fn block_check(groups: &[u64; 64]) -> u64 {
-    let (mut first, mut second) = (0u64, 0u64);
-    for group in &groups[..CHECK] {
-        first = first.wrapping_add(*group);
-        second = second.wrapping_add(first);
-    }
-    second
-}
-
-/// Document 01's check, under which old decks still stand: the plain sum, wrapping.
-pub fn old_check(groups: &[u64; 64]) -> u64 {
     groups[..CHECK].iter().fold(0, |sum, group| sum.wrapping_add(*group))
-}
-
-/// Group 63 of a block set to the check of the others as they stand.
-pub fn mend(block: &mut [u8], check: Check) {
-    let right = check(&groups_of(block));
-    block[8 * CHECK..].copy_from_slice(&right.to_be_bytes());
 }
 
 /// Group 0: block number, count, and four bytes of zero.
@@ -50,7 +30,7 @@ fn header(number: usize, count: usize) -> u64 {
 }
 
 /// The count of words in the block at `place` of `blocks`, or 16, 17, 18, or a word's 3 to 9.
-fn check_block(groups: &Groups, place: usize, blocks: usize, check: Check) -> Result<usize, Refusal> {
+fn check_block(groups: &Groups, place: usize, blocks: usize) -> Result<usize, Refusal> {
     if groups[0] >> 48 != place as u64 {
         return Err(16);
     }
@@ -59,7 +39,7 @@ fn check_block(groups: &Groups, place: usize, blocks: usize, check: Check) -> Re
     if !count_right(count, place, blocks) || reserved != 0 || groups[count + 1..CHECK].iter().any(|group| *group != 0) {
         return Err(17);
     }
-    if groups[CHECK] != check(groups) {
+    if groups[CHECK] != block_check(groups) {
         return Err(18);
     }
     let address = |n: usize| (FULL * place + n) as u32;
@@ -74,8 +54,8 @@ fn count_right(count: usize, place: usize, blocks: usize) -> bool {
     allowed.contains(&count) && FULL * place + count <= MOST_WORDS
 }
 
-/// All the words of a deck under a check, or what refuses it, before any question of room.
-fn words_under(check: Check, deck: &[u8]) -> Result<Vec<u64>, Refusal> {
+/// All the words of a deck, or what refuses it, before any question of room.
+pub fn words_of(deck: &[u8]) -> Result<Vec<u64>, Refusal> {
     if deck.is_empty() || !deck.len().is_multiple_of(BLOCK) || deck.len() > LONGEST {
         return Err(15);
     }
@@ -83,36 +63,18 @@ fn words_under(check: Check, deck: &[u8]) -> Result<Vec<u64>, Refusal> {
     let mut words = Vec::new();
     for (place, block) in deck.chunks(BLOCK).enumerate() {
         let groups = groups_of(block);
-        let count = check_block(&groups, place, blocks, check)?;
+        let count = check_block(&groups, place, blocks)?;
         words.extend_from_slice(&groups[1..=count]);
     }
     Ok(words)
 }
 
-pub fn words_of(deck: &[u8]) -> Result<Vec<u64>, Refusal> {
-    words_under(block_check, deck)
-}
-
-/// The same of a deck under document 01's check.
-pub fn old_words_of(deck: &[u8]) -> Result<Vec<u64>, Refusal> {
-    words_under(old_check, deck)
-}
-
 /// The number of words, written to the start of `room`; refused, nothing is written.
-fn read_under(check: Check, deck: &[u8], room: &mut [u64]) -> Result<usize, Refusal> {
-    let words = words_under(check, deck)?;
+pub fn read_deck(deck: &[u8], room: &mut [u64]) -> Result<usize, Refusal> {
+    let words = words_of(deck)?;
     let written = room.get_mut(..words.len()).ok_or(19)?;
     written.copy_from_slice(&words);
     Ok(words.len())
-}
-
-pub fn read_deck(deck: &[u8], room: &mut [u64]) -> Result<usize, Refusal> {
-    read_under(block_check, deck, room)
-}
-
-/// The old reader, which takes decks under document 01's check alone.
-pub fn read_old_deck(deck: &[u8], room: &mut [u64]) -> Result<usize, Refusal> {
-    read_under(old_check, deck, room)
 }
 
 /// The number of bytes, written to the start of `room`; refused, nothing is written.

@@ -1,7 +1,7 @@
 //! A second Model 30 engine, written from document 01 alone, for the proved one to be compared with; `signed` is written
-//! from request 2 of document 02 alone, `apsp` from request 3 and the paper of its words, the check of a block from request 4,
-//! the two lamps of a sum from request 5, `reading` with the codes that a reading tells apart from request 7, `trap` with the
-//! return from request 10, and `session` with its fences from request 13.
+//! from request 2 of document 02 alone, `apsp` from request 3 and the paper of its words, the two lamps of a sum from
+//! request 5, `reading` with the codes that a reading tells apart from request 7, `trap` with the return from request 10, and
+//! `session` with its fences from request 13.
 //!
 //! One file for each section of the paper. Behaviour sits in tables of functions indexed by a field's
 //! code; a code with no entry is a code that is not modelled, so refusal 10 reads the same tables. Where readings differ a

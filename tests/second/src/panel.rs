@@ -268,10 +268,6 @@ pub fn read_deck(bytes: &[u8], words: &mut [u64]) -> u64 {
     moved(deck::read_deck(bytes, words))
 }
 
-pub fn read_old_deck(bytes: &[u8], words: &mut [u64]) -> u64 {
-    moved(deck::read_old_deck(bytes, words))
-}
-
 pub fn write_deck(words: &[u64], bytes: &mut [u8]) -> u64 {
     moved(deck::write_deck(words, bytes))
 }

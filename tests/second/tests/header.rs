@@ -103,7 +103,7 @@ fn exported(source: &str) -> Vec<Signature> {
 #[test]
 fn the_header_declares_what_the_panel_exports() {
     let declared = declared(&read("include/panel.h"));
-    assert_eq!(declared.len(), 21);
+    assert_eq!(declared.len(), 20);
     assert_eq!(declared, exported(&read("crates/panel/src/lib.rt")));
 }
 

@@ -1,12 +1,12 @@
-//! Every line of document 01's "Numbers to check by", and the deck of word P under request 4's check and under 01's.
+//! Every line of document 01's "Numbers to check by", and the deck of word P.
 
 mod common;
 
 use common::{draw_words, P, P_FIELDS};
 use second::adder::{add, add_by_table, gate_a, Answer, Controls};
 use second::decimal::{add_decimal, Outcome};
-use second::deck::{read_deck, read_old_deck, write_deck};
-use second::lister::{list, renew};
+use second::deck::{read_deck, write_deck};
+use second::lister::list;
 use second::random::Random;
 use second::word::{build, named, pack, take_apart};
 
@@ -126,18 +126,6 @@ fn the_deck_of_p() {
     assert_eq!(deck[..8], 0x0000_0001_0000_0000u64.to_be_bytes());
     assert_eq!(deck[8..16], P.to_be_bytes());
     assert!(deck[16..504].iter().all(|byte| *byte == 0));
-    assert_eq!(deck[504..], 0x005D_23FD_F27D_303Eu64.to_be_bytes());
+    assert_eq!(deck[504..], 0x0001_8094_988E_6801u64.to_be_bytes());
     assert_eq!(list(&deck), "000 018093988E6801\n");
-}
-
-#[test]
-fn the_old_deck_of_p() {
-    let mut new = [0; 512];
-    assert_eq!(write_deck(&[P], &mut new), Ok(512));
-    let mut old = new;
-    old[504..].copy_from_slice(&0x0001_8094_988E_6801u64.to_be_bytes());
-    let mut room = [0];
-    assert_eq!((read_old_deck(&old, &mut room), room), (Ok(1), [P]));
-    assert_eq!((list(&old).as_str(), renew(&old)), ("REFUSED 18\n", new.to_vec()));
-    assert_eq!(renew(&new), b"REFUSED 18\n");
 }

@@ -3,13 +3,12 @@
 
 mod common;
 
-use common::decks::{set_group, Reader, READERS};
 use common::{
     are_alike, draw_bench, draw_modelled, draw_state, each_occurs, in_either, missing, of_cases, one_of, running_word,
     Bench, Codes, Kind, STOP,
 };
 use second::cycle::{next_work, not_modelled, Answer};
-use second::deck::write_deck;
+use second::deck::{block_check, read_deck, write_deck};
 use second::panel;
 use second::random::Random;
 use second::reading::{Reading, READINGS};
@@ -361,14 +360,13 @@ fn module_return(codes: Codes, pk_wrong: bool) -> u64 {
     }
 }
 
-/// The number by which a reader refuses a deck of one word, whatever it is.
-fn number_in_a_deck(reader: Reader, word: u64) -> u8 {
-    let (mut deck, mut words) = (reader.good_deck(1), [0xEEEE]);
-    set_group(&mut deck, 0, 1, word);
-    reader.mend(&mut deck, 0);
-    let number = (reader.read)(&deck, &mut words).err().unwrap_or(0);
-    assert!(number == 0 || words == [0xEEEE]);
-    number
+/// A deck of one word, whatever it is.
+fn deck_with(word: u64) -> Vec<u8> {
+    let mut groups = [0; 64];
+    groups[0] = 1 << 32;
+    groups[1] = word;
+    groups[63] = block_check(&groups);
+    groups.iter().flat_map(|group: &u64| group.to_be_bytes()).collect()
 }
 
 /// The word's number in taking apart, in a cycle, and in reading and in writing a deck; 0 where it is accepted.
@@ -382,10 +380,10 @@ fn numbers_of(word: u64) -> [u8; 4] {
         _ => 0,
     };
     assert!(cycled == 0 || bench == before);
-    let [read, read_old] = READERS.map(|reader| number_in_a_deck(reader, word));
-    assert_eq!(read, read_old);
-    let mut bytes = [0xEE; 512];
+    let (mut words, mut bytes) = ([0xEEEE], [0xEE; 512]);
+    let read = read_deck(&deck_with(word), &mut words).err().unwrap_or(0);
     let written = write_deck(&[word], &mut bytes).err().unwrap_or(0);
+    assert!(read == 0 || words == [0xEEEE]);
     assert!(written == 0 || bytes == [0xEE; 512]);
     [take_apart(word, 0).err().unwrap_or(0), cycled, read, written]
 }

@@ -3,10 +3,10 @@ use Rattle.agree_deck.proofs.cases.Statement.{statement}
 use Rattle.agree_deck.proofs.cases.Tie as tie
 
 abbrev invariant-loop : tie.invariant-loop
-invariant-loop store₀ deck₀ again₀ written₀ counts₀ olds₀ g₀ k₀ store deck again written counts olds g k = (k ≤ 2400) × (length store ≡ length store₀) × (length deck ≡ length deck₀) × (length again ≡ length again₀) × (length written ≡ length written₀) × (length counts ≡ length counts₀) × (length olds ≡ length olds₀)
+invariant-loop store₀ deck₀ again₀ written₀ counts₀ g₀ k₀ store deck again written counts g k = (k ≤ 2400) × (length store ≡ length store₀) × (length deck ≡ length deck₀) × (length again ≡ length again₀) × (length written ≡ length written₀) × (length counts ≡ length counts₀)
 
 abbrev decreases-loop : tie.decreases-loop
-decreases-loop store₀ deck₀ again₀ written₀ counts₀ olds₀ g₀ k₀ store deck again written counts olds g k = 2400 - k
+decreases-loop store₀ deck₀ again₀ written₀ counts₀ g₀ k₀ store deck again written counts g k = 2400 - k
 
 pub cases-spec : {M : Type 1} → statement M
 cases-spec =
@@ -19,7 +19,6 @@ cases-spec =
     (λ c. search rules)
     (λ c. search rules)
     (λ c κs. tt)
-    (λ c. search rules)
     (λ c. search rules)
     (λ c. search rules)
     (λ c. search rules)

@@ -1,10 +1,6 @@
 -- The part of the deck that the block is. Assumes nothing.
-use Prim.Native.Nat.{◌*◌}
-use mathlib.Core.Path.{◌∙◌}
+use Rattle.std.proofs.Common.{◌*◌, ◌∙◌, arith, length-drop, length-take, rules}
 use native.Mathlib.Nat.{add-sub_cancel_left}
-use native.Mathlib.Omega.{arith}
-use lib.ListN.{length-take, length-drop}
-use borrow.Author.Rules.{rules}
 use Rattle.deck.proofs.block_at.Statement.{statement}
 use Rattle.deck.proofs.block_at.Tie as tie
 

@@ -1,15 +1,9 @@
 -- The words counted so far, and those of the blocks that are left. Assumes nothing.
-use Prim.Native.Nat.{◌+◌, ◌-◌, ◌*◌, ◌/◌, ◌≤◌, ◌<◌}
-use mathlib.Core.Path.{◌≡◌, refl, ap, ◌∙◌}
-use mathlib.Core.List.{map}
-use native.Mathlib.Nat.{zero-add}
-use native.Mathlib.Omega.{arith}
-use lib.ListN.{length, drop, length-append, drop_of_length-le}
-use borrow.Author.Rules.{rules}
+use Rattle.std.proofs.Common.{◌≡◌, ◌+◌, ◌-◌, ◌*◌, ◌/◌, ◌<◌, ◌≤◌, map, length, drop, refl, ap, ◌∙◌, zero-add, arith, length-append, drop_of_length-le, rules}
 use Rattle.digits.specs.Lists.{joined}
 use Rattle.deck.specs.Deck.{blocks_of, block_at, count_in, words_in, words_of}
 use Rattle.deck.proofs.Groups.{length_groups, length_blocks}
-use Rattle.deck.proofs.Decks.{length_words, few_at, words_step}
+use Rattle.deck.proofs.Decks.{length_words, some_at, words_step}
 use Rattle.deck.proofs.count_words.Statement.{statement}
 use Rattle.deck.proofs.count_words.Tie as tie
 
@@ -30,8 +24,8 @@ loop-again c =
     let s = c.before.before.before.before.before in
     let deck = s.args.deck.now in
     let h : l.b < length deck / 512 = omega arith in
-    let k = few_at deck l.b h s.requires.1 in
-    let w = length_words (block_at deck l.b) (length_groups _) k in
+    let k = some_at deck l.b h s.requires.1 in
+    let w = length_words (block_at deck l.b) (length_groups _) k.1 in
     let j = ap length (words_step deck l.b h) ∙ length-append (words_in (block_at deck l.b)) _ in
     let n : c.count_in_lem.result ≡ count_in (block_at deck l.b) = c.count_in_lem.ensures.0 ∙ ap count_in c.before.block_at.ensures in
     (search rules, refl, omega arith, omega arith)

@@ -1,11 +1,5 @@
 -- The checks of the blocks that are left, against those of all. Assumes nothing.
-use Prim.Native.Nat.{◌+◌, ◌-◌, ◌/◌, ◌≤◌}
-use mathlib.Core.Path.{◌≡◌, refl, sym, ◌∙◌}
-use mathlib.Core.List.{[]}
-use native.Mathlib.Nat.{zero-add}
-use native.Mathlib.Omega.{arith}
-use lib.ListN.{length, get_or, drop, drop_of_length-le}
-use borrow.Author.Rules.{rules}
+use Rattle.std.proofs.Common.{◌≡◌, ◌+◌, ◌-◌, ◌/◌, ◌≤◌, [], length, get_or, drop, sym, refl, ◌∙◌, zero-add, arith, drop_of_length-le, rules}
 use Rattle.digits.specs.Refusal.{first}
 use Rattle.digits.specs.Lists.{in_turn}
 use Rattle.deck.specs.Deck.{blocks_of, block_checks, deck_checks}
@@ -16,18 +10,17 @@ use Rattle.deck.proofs.deck_fault.Statement.{statement}
 use Rattle.deck.proofs.deck_fault.Tie as tie
 
 abbrev invariant-loop : tie.invariant-loop
-invariant-loop by deck n b₀ b =
-    (b ≤ n) × (n ≡ length deck / 512) × (first (in_turn (block_checks by n) (0 + b) (drop b (blocks_of deck))) ≡ first (deck_checks by deck))
+invariant-loop deck n b₀ b =
+    (b ≤ n) × (n ≡ length deck / 512) × (first (in_turn (block_checks n) (0 + b) (drop b (blocks_of deck))) ≡ first (deck_checks deck))
 
 abbrev decreases-loop : tie.decreases-loop
-decreases-loop by deck n b₀ b = n - b
+decreases-loop deck n b₀ b = n - b
 
 -- what is found is of the block at its place
 found : (c : tie.After-block-fault invariant-loop decreases-loop) →
-    let by = c.before.before.before.before.before.args.by in
     let deck = c.before.before.before.before.before.args.deck.now in
     let b = c.before.before.before.loop.b in
-    c.block-fault.result ≡ first (block_checks by (length deck / 512) (0 + b) (get_or (blocks_of deck) b []))
+    c.block-fault.result ≡ first (block_checks (length deck / 512) (0 + b) (get_or (blocks_of deck) b []))
 found c =
     let deck = c.before.before.before.before.before.args.deck.now in
     let b = c.before.before.before.loop.b in
@@ -36,18 +29,16 @@ found c =
 returns : tie.Need-returns invariant-loop decreases-loop
 returns c =
     let l = c.before.before.before.before.loop in
-    let by = c.before.before.before.before.before.before.args.by in
     let deck = c.before.before.before.before.before.before.args.deck.now in
-    turn_stop (block_checks by (length deck / 512)) (block_numbered by (length deck / 512)) [] (blocks_of deck) 0 l.b c.before.block-fault.result (rw length_blocks (omega arith)) (found c.before) c.if1.true ∙ l.invariant.2
+    turn_stop (block_checks (length deck / 512)) (block_numbered (length deck / 512)) [] (blocks_of deck) 0 l.b c.before.block-fault.result (rw length_blocks (omega arith)) (found c.before) c.if1.true ∙ l.invariant.2
 
 loop-again : tie.Need-loop-preserved invariant-loop decreases-loop
 loop-again c =
     let l = c.before.before.before.before.loop in
-    let by = c.before.before.before.before.before.before.args.by in
     let deck = c.before.before.before.before.before.before.args.deck.now in
     let n = length deck / 512 in
     let e = sym (found c.before) ∙ c.if1.false in
-    (search rules, refl, turn_step (block_checks by n) (block_numbered by n) [] (blocks_of deck) 0 l.b (rw length_blocks (omega arith)) e ∙ l.invariant.2)
+    (search rules, refl, turn_step (block_checks n) (block_numbered n) [] (blocks_of deck) 0 l.b (rw length_blocks (omega arith)) e ∙ l.invariant.2)
 
 returns-2 : tie.Need-returns-2 invariant-loop decreases-loop
 returns-2 c =

@@ -1,12 +1,6 @@
 -- The number of the bytes read so far. Assumes nothing.
-use Prim.Native.Nat.{ℕ, ◌+◌, ◌-◌, ◌*◌, ◌^◌, ◌≤◌, ◌<◌}
-use mathlib.Core.Path.{◌≡◌, refl, sym, ap, ◌∙◌}
-use native.Mathlib.Nat.{pow-suc, pow-le-pow_right, le_trans}
-use native.Mathlib.Numerals.{add-one}
-use native.Mathlib.Omega.{arith}
-use lib.ListN.{length, take, get_or}
-use lib.Seq.{take-suc, take_all}
-use borrow.Author.Rules.{rules}
+use Rattle.std.proofs.Common.{◌≡◌, ℕ, ◌+◌, ◌-◌, ◌*◌, ◌^◌, ◌<◌, ◌≤◌, length, get_or, take, sym, refl, ap, ◌∙◌, le_trans, pow-suc, add-one, arith, take_all, take-suc, rules}
+use native.Mathlib.Nat.{pow-le-pow_right}
 use Rattle.digits.specs.Number.{number_of}
 use Rattle.digits.proofs.Number.{number_snoc}
 use Rattle.deck.proofs.group.Statement.{statement}

@@ -1,12 +1,6 @@
 -- One group a turn. Assumes nothing.
-use Prim.Native.Nat.{◌-◌, ◌*◌, ◌≤◌}
-use mathlib.Core.Path.{◌≡◌, sym, ◌∙◌}
-use mathlib.Core.List.{◌++◌, append-nil}
+use Rattle.std.proofs.Common.{◌≡◌, ◌-◌, ◌*◌, ◌≤◌, ◌++◌, length, get_or, take, drop, sym, ◌∙◌, append-nil, arith, length-drop, length-set, length-take, take_all, rules}
 use native.Mathlib.Nat.{add-sub_cancel_left}
-use native.Mathlib.Omega.{arith}
-use lib.ListN.{length, get_or, take, drop, length-set, length-take, length-drop}
-use lib.Seq.{take_all}
-use borrow.Author.Rules.{rules}
 use Rattle.deck.specs.Deck.{groups_of}
 use Rattle.digits.proofs.Copies.{copy_step}
 use Rattle.deck.proofs.Groups.{length_groups, groups_at}

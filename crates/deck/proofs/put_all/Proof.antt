@@ -1,15 +1,10 @@
 -- One block a turn: the front that is put, and the words of the blocks that are left. Assumes nothing.
-use Prim.Native.Nat.{◌+◌, ◌-◌, ◌/◌, ◌≤◌, ◌<◌}
-use mathlib.Core.Path.{◌≡◌, refl}
-use mathlib.Core.List.{◌++◌, map}
-use native.Mathlib.Omega.{arith}
-use lib.ListN.{length, take, drop, drop_of_length-le}
-use borrow.Author.Rules.{rules}
+use Rattle.std.proofs.Common.{◌≡◌, ◌+◌, ◌-◌, ◌/◌, ◌<◌, ◌≤◌, ◌++◌, map, length, take, drop, refl, arith, drop_of_length-le, rules}
 use Rattle.digits.specs.Lists.{joined}
 use Rattle.deck.specs.Deck.{blocks_of, block_at, count_in, words_in, words_of}
 use Rattle.digits.proofs.Puts.{Put, put_none, put_room, put_turn, put_all}
 use Rattle.deck.proofs.Groups.{length_groups, length_blocks}
-use Rattle.deck.proofs.Decks.{length_words, few_at, words_step}
+use Rattle.deck.proofs.Decks.{length_words, some_at, words_step}
 use Rattle.deck.proofs.put_all.Statement.{statement}
 use Rattle.deck.proofs.put_all.Tie as tie
 
@@ -29,10 +24,10 @@ put-words-requires c κs =
     let s = c.before.before.before.before.before.before in
     let l = c.before.before.before.loop in
     let deck = s.args.deck.now in
-    let k = few_at deck l.b (omega arith) s.requires.0.1 in
-    let w = length_words (block_at deck l.b) (length_groups _) k in
+    let k = some_at deck l.b (omega arith) s.requires.0.1 in
+    let w = length_words (block_at deck l.b) (length_groups _) k.1 in
     let r = put_room l.invariant.2 (words_in (block_at deck l.b)) _ (words_step deck l.b (omega arith)) in
-    rw c.before.block_at.ensures (k, omega arith)
+    rw c.before.block_at.ensures (k.1, omega arith)
 
 loop-again : tie.Need-loop-preserved invariant-loop decreases-loop
 loop-again c =
@@ -42,8 +37,8 @@ loop-again c =
     let deck = s.args.deck.now in
     let h : l.b < length deck / 512 = omega arith in
     let gs = block_at deck l.b in
-    let k = few_at deck l.b h s.requires.0.1 in
-    let w = length_words gs (length_groups _) k in
+    let k = some_at deck l.b h s.requires.0.1 in
+    let w = length_words gs (length_groups _) k.1 in
     let e : (f.result ≡ l.done + count_in gs) × (f.new.1.0 ≡ take l.done l.words ++ (words_in gs ++ drop (count_in gs) (drop l.done l.words))) =
     rw c.before.before.before.before.block_at.ensures at f.ensures in
     (search rules, refl, rw (e.0, e.1) (put_turn l.invariant.2 (words_in gs) _ (words_in gs) (count_in gs) (words_step deck l.b h) w refl s.requires.1))

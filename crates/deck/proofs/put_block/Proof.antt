@@ -1,11 +1,6 @@
 -- One group a turn: the front that is put, and what is left of the groups. Assumes nothing.
-use Prim.Native.Nat.{◌+◌, ◌-◌, ◌*◌, ◌≤◌}
-use mathlib.Core.Path.{◌≡◌, refl, ◌∙◌}
-use mathlib.Core.List.{map}
+use Rattle.std.proofs.Common.{◌≡◌, ◌+◌, ◌-◌, ◌*◌, ◌≤◌, map, length, get_or, take, drop, refl, ◌∙◌, arith, length-drop, drop_of_length-le, length-take, rules}
 use native.Mathlib.Nat.{add-sub_cancel_left}
-use native.Mathlib.Omega.{arith}
-use lib.ListN.{length, get_or, take, drop, length-take, length-drop, drop_of_length-le}
-use borrow.Author.Rules.{rules}
 use Rattle.digits.specs.Lists.{joined}
 use Rattle.digits.specs.Number.{digits_of}
 use Rattle.deck.specs.Deck.{bytes_of}

@@ -1,13 +1,8 @@
 -- One block a turn: the front that is put, and the bytes of the blocks that are left. Assumes nothing.
-use Prim.Native.Nat.{◌+◌, ◌-◌, ◌*◌, ◌≤◌}
-use mathlib.Core.Path.{◌≡◌, refl, ap, ◌∙◌}
+use Rattle.std.proofs.Common.{◌≡◌, ◌+◌, ◌-◌, ◌*◌, ◌≤◌, length, drop, refl, ap, ◌∙◌, arith, length-drop, drop_of_length-le, length-take, rules}
 use native.Mathlib.Nat.{add-sub_cancel_left}
-use native.Mathlib.Omega.{arith}
-use lib.ListN.{length, drop, length-take, length-drop, drop_of_length-le}
-use borrow.Author.Rules.{rules}
 use Rattle.digits.specs.Lists.{pieces}
-use Rattle.totals.specs.declared.Total.TheVariants.{Second}
-use Rattle.deck.specs.Deck.{bytes_of, block_by, block_count, blocks_by, deck_by, deck_of}
+use Rattle.deck.specs.Deck.{bytes_of, block_of, block_count, blocks_for, deck_of}
 use Rattle.digits.proofs.Lists.{length_pieces}
 use Rattle.digits.proofs.Puts.{Put, put_none, put_turn, put_all}
 use Rattle.deck.proofs.Written.{words_at, length_at, rest_of, rest_step, short, length_block_bytes, length_deck}
@@ -21,7 +16,7 @@ abbrev decreases-loop : tie.decreases-loop
 decreases-loop words deck₀ n b₀ deck b = n - b
 
 loop-holds : tie.Need-loop-init invariant-loop decreases-loop
-unfolding deck_by blocks_by
+unfolding deck_of blocks_for
 loop-holds c = (search rules, refl, put_none (deck_of c.before.before.args.words.now) c.before.before.args.deck.now)
 
 block-of-requires : tie.Need-block-of-requires invariant-loop decreases-loop
@@ -34,13 +29,13 @@ put-block-requires c κs = simp (length-take, length-drop) (omega arith)
 made : (c : tie.After-block-of invariant-loop decreases-loop) →
     let ws = c.before.before.before.before.before.before.before.args.words.now in
     let b = c.before.before.before.before.loop.b in
-    c.Block-of.result ≡ block_by Second b (words_at ws b)
+    c.Block-of.result ≡ block_of b (words_at ws b)
 made c =
     let ws = c.before.before.before.before.before.before.before.args.words.now in
     let b = c.before.before.before.before.loop.b in
     let n = c.before.before.Block-words.result in
     let d = length-drop (b * 62) ws in
-    c.Block-of.ensures ∙ rw (add-sub_cancel_left (b * 62) n) (ap (block_by Second b) (short n 62 (drop (b * 62) ws) (omega arith)))
+    c.Block-of.ensures ∙ rw (add-sub_cancel_left (b * 62) n) (ap (block_of b) (short n 62 (drop (b * 62) ws) (omega arith)))
 
 loop-again : tie.Need-loop-preserved invariant-loop decreases-loop
 loop-again c =
@@ -49,12 +44,12 @@ loop-again c =
     let f = c.before.before.put-block in
     let ws = s.args.words.now in
     let at = l.b * 512 in
-    let new = bytes_of (block_by Second l.b (words_at ws l.b)) in
+    let new = bytes_of (block_of l.b (words_at ws l.b)) in
     let k : at + 512 - at ≡ 512 = add-sub_cancel_left at 512 in
     let next : (l.b + 1) * 512 ≡ at + 512 = omega arith in
     let x : f.new.1.0 ≡ new = f.ensures ∙ ap bytes_of (made c.before.before.before.before) in
-    let m = length_block_bytes Second l.b (words_at ws l.b) (length_at ws l.b) in
-    (search rules, refl, rw (k, next) (put_turn l.invariant.2 new _ f.new.1.0 512 (rest_step ws (block_count (length ws)) l.b (omega arith)) m x (omega (arith, length_deck Second ws))))
+    let m = length_block_bytes l.b (words_at ws l.b) (length_at ws l.b) in
+    (search rules, refl, rw (k, next) (put_turn l.invariant.2 new _ f.new.1.0 512 (rest_step ws (block_count (length ws)) l.b (omega arith)) m x (omega (arith, length_deck ws))))
 
 returns : tie.Need-returns invariant-loop decreases-loop
 returns c =

@@ -1,11 +1,6 @@
 -- From the low end: the bytes still to put, before those that are put. Assumes nothing.
-use Prim.Native.Nat.{◌-◌, ◌/◌, ◌%◌, ◌≤◌}
-use mathlib.Core.Path.{◌≡◌, refl, ◌∙◌}
-use mathlib.Core.List.{◌++◌, append-nil}
-use native.Mathlib.Omega.{arith}
-use lib.ListN.{length, drop, length-set}
+use Rattle.std.proofs.Common.{◌≡◌, ◌-◌, ◌/◌, ◌%◌, ◌≤◌, ◌++◌, length, drop, refl, ◌∙◌, append-nil, arith, length-set, rules}
 use lib.Seq.{drop-length}
-use borrow.Author.Rules.{rules}
 use Rattle.digits.specs.Number.{digits_of}
 use Rattle.digits.proofs.Number.{digits_last}
 use Rattle.digits.proofs.Puts.{put_before}

@@ -1,10 +1,6 @@
 -- The block's words, into the part of the room that they fill. Assumes nothing.
-use Prim.Native.Nat.{◌+◌, ◌-◌}
-use mathlib.Core.Path.{◌≡◌, refl, ◌∙◌}
+use Rattle.std.proofs.Common.{◌≡◌, ◌+◌, ◌-◌, length, take, drop, refl, ◌∙◌, arith, length-drop, length-take, rules}
 use native.Mathlib.Nat.{add-sub_cancel_left}
-use native.Mathlib.Omega.{arith}
-use lib.ListN.{length, take, drop, length-take, length-drop}
-use borrow.Author.Rules.{rules}
 use Rattle.deck.specs.Deck.{count_in, words_in}
 use Rattle.deck.proofs.Decks.{length_words}
 use Rattle.digits.proofs.Copies.{copied_full}

@@ -1,9 +1,5 @@
 -- The four tests of 17. Assumes nothing.
-use Prim.Native.Nat.{◌%◌, ◌^◌}
-use mathlib.Core.Path.{◌≡◌}
-use native.Mathlib.Omega.{arith}
-use lib.ListN.{get_or}
-use borrow.Author.Rules.{rules}
+use Rattle.std.proofs.Common.{◌≡◌, ◌%◌, ◌^◌, get_or, arith, rules}
 use Rattle.deck.specs.Deck.{reserved_in}
 use Rattle.deck.proofs.shape_wrong.Statement.{statement}
 use Rattle.deck.proofs.shape_wrong.Tie as tie

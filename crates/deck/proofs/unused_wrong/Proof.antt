@@ -1,11 +1,5 @@
 -- The groups that are left to look at, against all the unused ones. Assumes nothing.
-use Prim.Native.Nat.{ℕ, ◌+◌, ◌-◌}
-use mathlib.Core.Path.{◌≡◌, sym, ap, ◌∙◌}
-use mathlib.Core.Bool.{not}
-use native.Mathlib.Omega.{arith}
-use lib.ListN.{length, drop, take, length-take, drop_of_length-le}
-use lib.Seq.{get_or-take, length-take-le}
-use borrow.Author.Rules.{rules}
+use Rattle.std.proofs.Common.{◌≡◌, ℕ, ◌+◌, ◌-◌, not, length, take, drop, sym, ap, ◌∙◌, arith, drop_of_length-le, length-take, length-take-le, get_or-take, rules}
 use Rattle.digits.specs.Lists.{all_zero}
 use Rattle.deck.specs.Deck.{unused_in}
 use Rattle.deck.proofs.Walks.{zero_step, zero_stop}

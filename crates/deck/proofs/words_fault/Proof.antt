@@ -1,10 +1,5 @@
 -- The checks of the words that are left, against those of all. Assumes nothing.
-use Prim.Native.Nat.{◌+◌, ◌-◌, ◌≤◌}
-use mathlib.Core.Path.{◌≡◌, sym, ◌∙◌}
-use native.Mathlib.Nat.{add-zero}
-use native.Mathlib.Omega.{arith}
-use lib.ListN.{length, drop, drop_of_length-le}
-use borrow.Author.Rules.{rules}
+use Rattle.std.proofs.Common.{◌≡◌, ◌+◌, ◌-◌, ◌≤◌, length, drop, sym, ◌∙◌, add-zero, arith, drop_of_length-le, rules}
 use Rattle.digits.specs.Refusal.{first}
 use Rattle.digits.specs.Lists.{in_turn}
 use Rattle.deck.specs.Deck.{word_checks}

@@ -1,8 +1,5 @@
 -- 21, then the words, then 19, then the deck. Assumes nothing.
-use mathlib.Core.Path.{◌≡◌, sym, ◌∙◌}
-use native.Mathlib.Omega.{arith}
-use lib.ListN.{length}
-use borrow.Author.Rules.{rules}
+use Rattle.std.proofs.Common.{◌≡◌, length, sym, ◌∙◌, arith, rules}
 use Rattle.digits.specs.Refusal.{first}
 use Rattle.digits.specs.Lists.{in_turn}
 use Rattle.deck.specs.Deck.{words_wrong, word_checks, write_checks}

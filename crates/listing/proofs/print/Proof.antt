@@ -5,9 +5,8 @@ use mathlib.Core.List.{List}
 use native.Mathlib.Omega.{arith}
 use lib.ListN.{take, replicate, length-replicate}
 use borrow.Author.Rules.{rules}
-use Rattle.totals.specs.declared.Total.TheVariants.{Second}
 use Rattle.listing.specs.Listing.{lines_of, text_of}
-use Rattle.listing.proofs.Texts.{printed_words, printed_refusal}
+use Rattle.listing.proofs.Texts.{text_of_words, text_of_refusal}
 use Rattle.listing.proofs.print.Statement.{statement}
 use Rattle.listing.proofs.print.Tie as tie
 
@@ -19,7 +18,7 @@ words : (c : tie.After-read2) → (c.read2.given.0.0 ≤ 4096) × (lines_of (tak
 words c =
     let f = c.before.before.before.read in
     let deck = c.before.before.before.before.before.before.before.args.deck.now in
-    let r = printed_words Second lines_of deck c.read2.given.0.0 room (length-replicate {A = ℕ} 4096 0) (sym f.ensures.0 ∙ c.read2.given.1) in
+    let r = text_of_words deck room c.read2.given.0.0 (length-replicate {A = ℕ} 4096 0) (sym f.ensures.0 ∙ c.read2.given.1) in
     (r.0, rw f.ensures.1 r.1)
 
 part-list-end : tie.Need-slice-bounds-list-end
@@ -37,7 +36,7 @@ returns-2 c =
     let known = c.before.before.before.before.before in
     let f = known.before.before.before.read in
     let deck = known.before.before.before.before.before.before.before.args.deck.now in
-    rw (printed_refusal Second lines_of deck known.read3.given.0.0 (rw (length-replicate {A = ℕ} 4096 0) at (sym f.ensures.0 ∙ known.read3.given.1))) at c.before.before.refusal.ensures
+    rw (text_of_refusal deck known.read3.given.0.0 (rw (length-replicate {A = ℕ} 4096 0) at (sym f.ensures.0 ∙ known.read3.given.1))) at c.before.before.refusal.ensures
 
 pub print-spec : {M : Type 1} → statement M
 print-spec =

@@ -1,9 +1,8 @@
-//! Decks: written, some of them put under document 01's check, damaged in each part, read by both readers with rooms too
-//! small, exact and larger, and listed.
+//! Decks: written, damaged in each part, read with rooms too small, exact and larger, and listed.
 
 use super::draw::{modelled, packed, reading_of, word_for, PS_AND_CU, PS_AND_PK};
 use super::{digest_line, drawn_bytes, mix_bytes};
-use crate::deck::{block_check, mend, old_check, read_deck, read_old_deck, write_deck, Check, BLOCK, FULL};
+use crate::deck::{read_deck, write_deck, BLOCK, FULL};
 use crate::lister::list;
 use crate::random::{mix, Random};
 use crate::Refusal;
@@ -46,42 +45,45 @@ fn drawn_words(random: &mut Random, bad: u64) -> Vec<u64> {
     (0..4097).map(&mut word).collect()
 }
 
-/// The group at a place of the block, as `change` makes it.
-fn change(block: &mut [u8], place: usize, change: impl Fn(u64) -> u64) {
-    let bytes: &mut [u8; 8] = (&mut block[8 * place..8 * place + 8]).try_into().unwrap();
-    *bytes = change(u64::from_be_bytes(*bytes)).to_be_bytes();
+/// `v` more in the group at `at`, wrapping.
+fn raise(deck: &mut [u8], at: usize, v: u64) {
+    let bytes: &mut [u8; 8] = (&mut deck[at..at + 8]).try_into().unwrap();
+    *bytes = u64::from_be_bytes(*bytes).wrapping_add(v).to_be_bytes();
 }
 
-/// Two groups of the block in each other's place.
-fn exchange(block: &mut [u8], one: usize, other: usize) {
-    (0..8).for_each(|byte| block.swap(8 * one + byte, 8 * other + byte));
+/// The group at `at` with some bits turned, and the check made to hold again.
+fn exchange(block: &mut [u8], at: usize, mask: u64) {
+    let old = u64::from_be_bytes(block[at..at + 8].try_into().unwrap());
+    raise(block, at, (old ^ mask).wrapping_sub(old));
+    raise(block, 504, (old ^ mask).wrapping_sub(old));
 }
 
-/// A byte turned anywhere or in one part, or a group changed and the check made to hold again, or two exchanged, and the check
-/// so made half the time. `held` is how many words the block has.
-fn damage(block: &mut [u8], x: u64, check: Check, held: usize) {
+/// A byte turned anywhere or in one part, or groups changed so that the check holds.
+fn damage(block: &mut [u8], x: u64) {
     let place = (x >> 8) as usize % 512;
     let mask = ((x >> 20) % 255 + 1) as u8;
     let power = 1u64 << ((x >> 28) % 64);
-    let word = |shift: u32| (x >> shift) as usize % held + 1;
     match x % 16 {
         0..=2 => block[place] ^= mask,
         3 => block[place % 2] ^= mask,
         4 => block[2 + place % 2] ^= mask,
         5 => block[4 + place % 4] ^= mask,
         6 => block[504 + place % 8] ^= mask,
-        7 => change(block, word(8), |group| group.wrapping_add(power)),
-        8 => exchange(block, word(8), word(16)),
-        // Behind the last word of a short block is an unused group, and behind that of a full one the check.
-        9 if word(8) < FULL => exchange(block, word(8), word(8) + 1),
-        10 | 11 => change(block, 0, |group| group.wrapping_add(power)),
-        12 => change(block, 0, |group| group.wrapping_add(1 << 32)),
-        13 => change(block, word(8), |group| group ^ PS_AND_PK),
-        14 => change(block, word(8), |group| group ^ PS_AND_CU),
+        7..=9 => {
+            raise(block, ((x >> 8) % 62 + 1) as usize * 8, power);
+            raise(block, ((x >> 16) % 62 + 1) as usize * 8, power.wrapping_neg());
+        }
+        10 | 11 => {
+            raise(block, 0, power);
+            raise(block, 504, power);
+        }
+        12 => {
+            raise(block, 0, 1 << 32);
+            raise(block, 504, 1 << 32);
+        }
+        13 => exchange(block, ((x >> 8) % 62 + 1) as usize * 8, PS_AND_PK),
+        14 => exchange(block, ((x >> 8) % 62 + 1) as usize * 8, PS_AND_CU),
         _ => (),
-    }
-    if matches!(x % 16, 7 | 10..=14) || matches!(x % 16, 8 | 9) && x >> 40 & 1 == 1 {
-        mend(block, check);
     }
 }
 
@@ -91,14 +93,6 @@ fn block_of(words: usize, x: u64) -> usize {
         (0, _) => 0,
         (blocks, 0) => blocks - 1,
         (blocks, _) => (x / 4 % blocks as u64) as usize,
-    }
-}
-
-/// How many words that block has; where there is no deck, as many as in a full one.
-fn held_in(block: usize, words: usize) -> usize {
-    match words {
-        0 => FULL,
-        _ => FULL.min(words - FULL * block),
     }
 }
 
@@ -129,18 +123,13 @@ impl Counts {
     }
 }
 
-/// The digest after all the words.
-fn mix_words(digest: u64, words: &[u64]) -> u64 {
-    words.iter().copied().fold(digest, mix)
-}
-
 const LARGEST_ROOM: usize = 34_816;
 
 pub fn text() -> String {
     let mut deck = drawn_bytes(47, LARGEST_ROOM);
     let mut again = vec![0; 4097];
     let (mut random, mut digest, mut text) = (Random::new(43), 8, String::new());
-    let [mut written, mut read, mut read_old] = [(); 3].map(|()| Counts([0; 22]));
+    let (mut written, mut read) = (Counts([0; 22]), Counts([0; 22]));
     for k in 0..2400 {
         let [a, b, c, e] = std::array::from_fn(|_| random.next());
         let words = words_of(k, a >> 16);
@@ -149,23 +138,16 @@ pub fn text() -> String {
         let room = room_for(bytes_of(words), LARGEST_ROOM, b);
         digest = mix(digest, written.count(write_deck(&store[..words], &mut deck[..room])));
         digest = mix_bytes(digest, &deck);
-        let old = c >> 62 == 3;
-        if old {
-            deck[..bytes_of(words)].chunks_mut(BLOCK).for_each(|block| mend(block, old_check));
-        }
-        let check = if old { old_check } else { block_check };
-        let block = block_of(words, c >> 16);
-        damage(&mut deck[block * BLOCK..][..BLOCK], e, check, held_in(block, words));
+        let at = block_of(words, c >> 16) * BLOCK;
+        damage(&mut deck[at..at + BLOCK], e);
         let length = length_of(bytes_of(words), c >> 8).min(LARGEST_ROOM);
         let room = room_for(words, 4097, c);
         digest = mix(digest, read.count(read_deck(&deck[..length], &mut again[..room])));
-        digest = mix_words(digest, &again);
-        digest = mix(digest, read_old.count(read_old_deck(&deck[..length], &mut again[..room])));
-        digest = mix_words(digest, &again);
+        digest = again.iter().fold(digest, |digest, word| mix(digest, *word));
         digest = mix_bytes(digest, list(&deck[..length]).as_bytes());
         if k % 100 == 99 {
             text += &digest_line(k + 1, digest);
         }
     }
-    text + "written\n" + &written.report() + "read\n" + &read.report() + "read old\n" + &read_old.report()
+    text + "written\n" + &written.report() + "read\n" + &read.report()
 }

@@ -1,7 +1,6 @@
 //! A machine on the bench, and words drawn by the generator.
 #![allow(dead_code)]
 
-pub mod decks;
 pub mod fences;
 
 use second::cycle::{cycle, not_modelled, Answer, LOCAL_BYTES, MOST_MAIN, MOST_WORDS};
