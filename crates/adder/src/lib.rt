@@ -1,4 +1,6 @@
 // The arithmetic unit, from the bytes that CA and CB chose to the result and its latches.
+#![tactic(auto)]
+
 ghost use Rattle.std.specs.Prelude.{◌≡◌};
 ghost use Rattle.adder.specs.Gates.{gated_a, gated_b};
 ghost use Rattle.adder.specs.Adder.{is_complement, is_decimal, is_invalid, turned, sixes, entering, summed, result_of, finished, uncarried, carry_into, operated, entering_b, sum_of, work_of};

@@ -1,4 +1,6 @@
 // What the compared programs share with tests/second: the generator, the digest, and the lines they print.
+#![tactic(auto)]
+
 mod draw;
 mod fields;
 mod state;

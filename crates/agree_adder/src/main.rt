@@ -1,5 +1,7 @@
 // The adder against tests/second: every pair of bytes with either carry, every gate and operation, and the worked sums;
 // and both corrections, the rule and the table, of every sum.
+#![tactic(auto)]
+
 use adder::{Controls, Sum};
 use libc::STDOUT_FILENO;
 

@@ -1,5 +1,7 @@
 // AP and SP against tests/second: every length, operation and sign, sizes that are equal or nearly so, bad digits and signs
 // in every place, one field twice, the ends of storage, and each refusal.
+#![tactic(auto)]
+
 ghost use Rattle.std.specs.Prelude.{◌≤◌};
 
 use agree::Trial;

@@ -1,4 +1,6 @@
 // Single cycles against tests/second, and the work that would be done in each: drawn words, readings, states and storage sizes.
+#![tactic(auto)]
+
 use agree::Lent;
 use codes::Reading;
 use libc::STDOUT_FILENO;

@@ -1,5 +1,7 @@
 // Decimal adds against tests/second, in all main storage and in fences: every length and carry, bad digits in every place, one field
 // twice, the ends of storage and of a fence, and each refusal.
+#![tactic(auto)]
+
 use agree::Trial;
 use decimal::Added;
 use storage::Fence;

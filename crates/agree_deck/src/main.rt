@@ -1,4 +1,6 @@
 // Decks against tests/second: written, damaged in each part, read with rooms too small, exact and larger, and listed.
+#![tactic(auto)]
+
 ghost use Rattle.std.specs.Prelude.{◌≤◌};
 
 use deck::{ReadIn, Writing};

@@ -1,4 +1,6 @@
 // Runs against tests/second: drawn stores, readings, states, sizes and budgets.
+#![tactic(auto)]
+
 ghost use Rattle.std.specs.Prelude.{◌<◌};
 
 use agree::Lent;

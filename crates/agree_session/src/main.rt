@@ -1,5 +1,7 @@
 // Sessions of two boards against tests/second: openings, single turns at and beside the edges of each fence, and sessions in drawn
 // orders.
+#![tactic(auto)]
+
 use agree::Lent;
 use codes::Reading;
 use machine::{Cycled, State};

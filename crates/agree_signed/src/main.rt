@@ -1,5 +1,7 @@
 // The signed read-out against tests/second: numbers of every size written and fields of every sign digit read, bad digits
 // in every place, and fields of other lengths.
+#![tactic(auto)]
+
 use signed::{ReadOut, Wrote};
 
 // The generator's last number, and the digest.

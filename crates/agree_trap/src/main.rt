@@ -1,4 +1,6 @@
 // Traps and returns against tests/second: calls alone, return words beside every CM, CH and CL, and runs that traps break into.
+#![tactic(auto)]
+
 use codes::Reading;
 use machine::{Cycled, State};
 use run::{Ending, Finished};

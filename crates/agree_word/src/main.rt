@@ -1,4 +1,6 @@
 // Taking apart and packing against tests/second: drawn words, fields and addresses, within their limits and beyond.
+#![tactic(auto)]
+
 use libc::STDOUT_FILENO;
 use word::{Apart, Fields, Packed};
 

@@ -1,4 +1,6 @@
 // AP and SP, decimal add and subtract with signs: the words of one program for both, and the entry that runs them.
+#![tactic(auto)]
+
 ghost use Rattle.std.specs.Prelude.{◌≡◌};
 ghost use Rattle.machine.specs.Cycle.{outcome};
 ghost use Rattle.apsp.specs.Program.{signed_words};

@@ -1,4 +1,6 @@
 // What stands on the board's command line: numbers, registers with their values, traps, a reading, fences, and the cycles to show.
+#![tactic(auto)]
+
 mod fields;
 mod forms;
 mod numbers;

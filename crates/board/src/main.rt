@@ -1,4 +1,6 @@
 // The host program, for a person at a bench or in front of a class.
+#![tactic(auto)]
+
 mod add;
 mod both;
 mod go;

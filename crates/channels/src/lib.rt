@@ -1,4 +1,6 @@
 // The lamp channels: a state, and the work of a cycle, as the bytes that feed the lamps.
+#![tactic(auto)]
+
 ghost use Rattle.std.specs.Prelude.{◌≡◌, ◌+◌, ◌*◌, ◌/◌, ◌%◌};
 ghost use Rattle.channels.specs.Channels.{saved, loaded, worked};
 

@@ -1,4 +1,6 @@
 // The codes that a reading knows: what CH and CL test, what CS does, and which are not modelled.
+#![tactic(auto)]
+
 mod branches;
 mod modelled;
 mod status;

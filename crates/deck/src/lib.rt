@@ -1,4 +1,6 @@
 // A deck of words: blocks of 512 bytes, each 64 groups of 8, high byte first.
+#![tactic(auto)]
+
 ghost use Rattle.std.specs.Prelude.{◌≡◌, ◌+◌, ◌*◌, ◌/◌, ◌<◌, ◌≤◌, min, ◌++◌, length, take, drop};
 ghost use Rattle.digits.specs.Refusal.{first};
 ghost use Rattle.digits.specs.Lent.{over};

@@ -1,4 +1,6 @@
 // What everything stands on: a byte by its bits and its digits, a refusal before others, the sizes that 1 asks for, and a copy.
+#![tactic(auto)]
+
 ghost use Rattle.std.specs.Prelude.{◌≡◌, cond, ◌-◌, ◌^◌, ◌<◌, get_or};
 ghost use Rattle.digits.specs.Bits.{one, bit, with_bit};
 ghost use Rattle.digits.specs.Digits.{both_decimal};

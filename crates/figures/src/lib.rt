@@ -1,4 +1,6 @@
 // A whole number in figures, and a number as a person types it.
+#![tactic(auto)]
+
 mod typed;
 
 ghost use Rattle.std.specs.Prelude.{◌≡◌, map, ◌≤◌, length};

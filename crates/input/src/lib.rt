@@ -1,4 +1,6 @@
 // A file as the programs read it: all of it, as much as the room holds, or not at all.
+#![tactic(auto)]
+
 ghost use Rattle.std.specs.Prelude.{length};
 ghost use Rattle.input.specs.Inside.{Inside};
 

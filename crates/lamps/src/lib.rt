@@ -1,4 +1,6 @@
 // What the lamps show, as text for a person at a bench: a line or a picture for each cycle, the walk, what came of a trap, and how it ended.
+#![tactic(auto)]
+
 mod columns;
 mod endings;
 mod lines;

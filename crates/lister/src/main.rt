@@ -1,4 +1,6 @@
 // Prints the deck on standard input: a line for each word, or how it is refused.
+#![tactic(auto)]
+
 use input::Input;
 use libc::{STDERR_FILENO, STDIN_FILENO, STDOUT_FILENO};
 use text::Written;

@@ -1,4 +1,6 @@
 // The lister's text: a line for each word of a deck, or a refusal.
+#![tactic(auto)]
+
 ghost use Rattle.std.specs.Prelude.{◌≡◌, ◌*◌, ◌≤◌, length};
 ghost use Rattle.digits.specs.Lent.{over};
 ghost use Rattle.listing.specs.Listing.{text_line, lines_of, refusal_of, text_of};

@@ -1,4 +1,6 @@
 // The machine: its state, and one cycle of it.
+#![tactic(auto)]
+
 mod access;
 mod branch;
 mod sources;

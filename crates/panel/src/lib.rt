@@ -1,4 +1,6 @@
 // The panel's C interface, include/panel.h: bytes in, bytes out, over the libraries.
+#![tactic(auto)]
+
 mod fields;
 
 ghost use Rattle.std.specs.Prelude.{◌≡◌, ◌≤◌, length};

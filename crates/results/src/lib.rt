@@ -1,4 +1,6 @@
 // What an addition came to, as text.
+#![tactic(auto)]
+
 ghost use Rattle.std.specs.Prelude.{◌≡◌, true, cond, ◌-◌, ◌≤◌, length, take};
 ghost use Rattle.text.specs.Text.{put_of, room_after};
 ghost use Rattle.results.specs.Results.{told_of, carry_end, sign_mark, signed_end, sum_of, bad_of, refusal_of, result_of};

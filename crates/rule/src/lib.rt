@@ -1,4 +1,6 @@
 // The correction by the two digit rules, for a board that has no room for the table.
+#![tactic(auto)]
+
 ghost use Rattle.std.specs.Prelude.{◌≡◌, ◌<◌};
 ghost use Rattle.rule.specs.Correction.{lowered, corrected};
 

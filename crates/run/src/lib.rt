@@ -1,4 +1,6 @@
 // A run: cycles until stop, refusal or budget.
+#![tactic(auto)]
+
 ghost use Rattle.std.specs.Prelude.{◌≡◌};
 ghost use Rattle.run.specs.Run.{cycles_of, run_checks, run_in, run_of, cycle_by};
 ghost use Rattle.digits.specs.Refusal.{first};

@@ -1,4 +1,6 @@
 // Two boards on one word store and one main storage, each in its own fence.
+#![tactic(auto)]
+
 ghost use Rattle.std.specs.Prelude.{◌≡◌};
 ghost use Rattle.machine.specs.Cycle.{outcome};
 ghost use Rattle.session.specs.Opening.{fence_wrong, fences_wrong, open_of};

@@ -1,5 +1,7 @@
 // Writes the deck of a shipped program to standard output: of the decimal add, of AP and SP, or of a lesson, on a trap or on the two
 // readings.
+#![tactic(auto)]
+
 ghost use Rattle.std.specs.Prelude.{◌≡◌};
 ghost use Rattle.deck.specs.Deck.{deck_of};
 ghost use Rattle.decimal.specs.Program.{shipped};

@@ -1,4 +1,6 @@
 // Signed read-out: a packed field of 8 bytes, fifteen digits and a sign, as a number, and back.
+#![tactic(auto)]
+
 ghost use Rattle.std.specs.Prelude.{◌≡◌, ◌<◌, ◌≤◌, min, nat_abs, length, get_or};
 ghost use Rattle.digits.specs.Tens.{tens};
 ghost use Rattle.digits.specs.Packed.{digits_in, preferred, signed};

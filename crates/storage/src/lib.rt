@@ -1,4 +1,6 @@
 // Storage: what a word asks of it, and whether that is inside.
+#![tactic(auto)]
+
 ghost use Rattle.std.specs.Prelude.{◌≡◌};
 ghost use Rattle.storage.specs.Storage.{reads_local, reads_at, writing, idle, access_of, outside};
 

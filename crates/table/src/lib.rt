@@ -1,4 +1,6 @@
 // The correction by a table, for a board that has room for it.
+#![tactic(auto)]
+
 ghost use Rattle.std.specs.Prelude.{◌≡◌};
 ghost use Rattle.rule.specs.Correction.{corrected};
 ghost use Rattle.table.specs.Table.{index, Corrections};

@@ -1,4 +1,6 @@
 // Text: digits as characters, numbers in columns, refusals in words, and a text in the room lent.
+#![tactic(auto)]
+
 mod refusals;
 
 ghost use Rattle.std.specs.Prelude.{◌≡◌, ◌++◌, ◌<◌, ◌≤◌, length, replicate};

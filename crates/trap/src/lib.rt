@@ -1,4 +1,6 @@
 // A trap: a call between two cycles. The way back is in a word, which the machine knows.
+#![tactic(auto)]
+
 ghost use Rattle.std.specs.Prelude.{◌≡◌};
 ghost use Rattle.trap.specs.Trap.{trap_of};
 
