@@ -6,7 +6,7 @@ ghost use Rattle.adder.specs.Gates.{gated_a, gated_b};
 ghost use Rattle.adder.specs.Adder.{is_complement, is_decimal, is_invalid, turned, sixes, entering, summed, result_of, finished, uncarried, carry_into, operated, entering_b, sum_of, work_of};
 
 // What is to be done: four fields of the word, and the bits of S that CV and CC may ask.
-#[derive(Drop)]
+#[derive(Clone, Copy)]
 pub struct Controls {
     pub cf: u8,
     pub cg: u8,
@@ -17,7 +17,7 @@ pub struct Controls {
 }
 
 // The sum before correction: its byte, its carries, and whether it is to be corrected.
-#[derive(Drop)]
+#[derive(Clone, Copy)]
 struct Uncorrected {
     byte: u8,
     ac: bool,
@@ -27,7 +27,7 @@ struct Uncorrected {
 }
 
 // The result and its latches, the sum before correction, and two lamps: the carry out of the low digit, and a digit over 9 on an input.
-#[derive(Drop)]
+#[derive(Clone, Copy)]
 pub struct Sum {
     pub result: u8,
     pub ac: bool,
@@ -39,7 +39,7 @@ pub struct Sum {
 }
 
 // What the unit did on the way to its answer, for the lamps between the registers and the adder.
-#[derive(Drop)]
+#[derive(Clone, Copy)]
 pub struct Work {
     pub a_chosen: u8,
     pub a_gated: u8,

@@ -53,7 +53,7 @@ pub fn fill(x: u64, bytes: &mut [u8]) -> u64 {
 }
 
 // How much of each storage is lent.
-#[derive(Drop)]
+#[derive(Clone, Copy)]
 pub struct Lent {
     pub words: usize,
     pub main: usize,

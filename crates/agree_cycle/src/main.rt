@@ -8,7 +8,7 @@ use machine::{Cycled, NextSum, State};
 use word::Fields;
 
 // A case: the reading, the word that stands at WX, the state, and how much of each storage is lent.
-#[derive(Drop)]
+#[derive(Clone, Copy)]
 struct Trial {
     reading: Reading,
     word: u64,
@@ -17,7 +17,7 @@ struct Trial {
 }
 
 // The generator's last number, and the digest.
-#[derive(Drop)]
+#[derive(Clone, Copy)]
 struct Going {
     x: u64,
     digest: u64,

@@ -8,7 +8,7 @@ use libc::STDOUT_FILENO;
 use text::Written;
 
 // The generator's last number, and the digest.
-#[derive(Drop)]
+#[derive(Clone, Copy)]
 struct Going {
     x: u64,
     digest: u64,

@@ -11,7 +11,7 @@ use run::{Ending, Finished};
 
 // A run: the reading that its words were drawn for and its own, the state that it starts from, how much of each storage is lent,
 // its budget, and the rate of words that seldom run.
-#[derive(Drop)]
+#[derive(Clone, Copy)]
 struct Trial {
     filled: Reading,
     reading: Reading,
@@ -22,7 +22,7 @@ struct Trial {
 }
 
 // The generator's last number, the digest, and how many cycles ran.
-#[derive(Drop)]
+#[derive(Clone, Copy)]
 struct Going {
     x: u64,
     digest: u64,

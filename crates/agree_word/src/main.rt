@@ -5,7 +5,7 @@ use libc::STDOUT_FILENO;
 use word::{Apart, Fields, Packed};
 
 // The generator's last number, and the digest.
-#[derive(Drop)]
+#[derive(Clone, Copy)]
 struct Going {
     x: u64,
     digest: u64,

@@ -14,7 +14,7 @@ pub use registers::with_register;
 pub use wholes::whole_of;
 
 // A number, or a text that is none.
-#[derive(Drop)]
+#[derive(Clone, Copy)]
 pub enum Number {
     Is(u32),
     Wrong,
@@ -22,7 +22,7 @@ pub enum Number {
 
 // A register by its place with its value, the first or the last cycle to show, a trap's cycle and address, how the deck is read, or
 // none of them.
-#[derive(Drop)]
+#[derive(Clone, Copy)]
 pub enum Given {
     Register(u8, u16),
     From(u32),
@@ -34,14 +34,14 @@ pub enum Given {
 }
 
 // The start and the end of a fence, or a text that is none.
-#[derive(Drop)]
+#[derive(Clone, Copy)]
 pub enum Bounds {
     Are(u32, u32),
     Wrong,
 }
 
 // A whole number of at most fifteen digits, one of more, or a text that is none.
-#[derive(Drop)]
+#[derive(Clone, Copy)]
 pub enum Whole {
     Is(i64),
     Long,

@@ -18,7 +18,7 @@ use machine::State;
 use text::Written;
 
 // Add with a carry; or add or subtract with signs, AP or SP.
-#[derive(Drop)]
+#[derive(Clone, Copy)]
 pub enum Operation {
     Add(bool),
     Signed(bool),
@@ -59,7 +59,7 @@ fn lay_out(first: &[u8], second: &[u8], size: usize, main: &mut [u8])
     arguments::lay(second, &mut main[0x200..second_end]);
 }
 
-#[derive(Drop)]
+#[derive(Clone, Copy)]
 struct Sum {
     added: Added,
     out: Out,
@@ -137,7 +137,7 @@ fn summed(
     }
 }
 
-#[derive(Drop)]
+#[derive(Clone, Copy)]
 struct Said {
     text: Written,
     out: Out,
@@ -213,7 +213,7 @@ fn added(view: View, operation: Operation, at: usize, first: &[u8], second: &[u8
 }
 
 // An operation, what it takes beside its numbers, and the place of that.
-#[derive(Drop)]
+#[derive(Clone, Copy)]
 struct Task {
     operation: Operation,
     takes: Takes,

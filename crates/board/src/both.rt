@@ -10,7 +10,7 @@ use session::Board;
 use std::num::wrapping_add_u8;
 
 // Both boards' registers, the reading, and which cycles are shown.
-#[derive(Drop)]
+#[derive(Clone, Copy)]
 pub struct Both {
     pub a: State,
     pub b: State,
@@ -19,7 +19,7 @@ pub struct Both {
     pub to: u32,
 }
 
-#[derive(Drop)]
+#[derive(Clone, Copy)]
 pub enum Asked {
     Both(Both),
     Wrong,

@@ -61,7 +61,7 @@ fn walk() {
     out::flush(out, &room);
 }
 
-#[derive(Drop)]
+#[derive(Clone, Copy)]
 enum Command {
     Add,
     Ap,

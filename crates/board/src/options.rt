@@ -6,7 +6,7 @@ use arguments::Given;
 use codes::Reading;
 use machine::State;
 
-#[derive(Drop)]
+#[derive(Clone, Copy)]
 pub struct Options {
     pub state: State,
     pub reading: Reading,
@@ -14,14 +14,14 @@ pub struct Options {
     pub to: u32,
 }
 
-#[derive(Drop)]
+#[derive(Clone, Copy)]
 pub enum Asked {
     Options(Options),
     Wrong,
 }
 
 // What a command takes beside the cycles to show: registers, traps and a reading, a carry before them, or nothing.
-#[derive(Drop)]
+#[derive(Clone, Copy)]
 pub enum Takes {
     Registers,
     Carry,

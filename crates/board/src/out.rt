@@ -6,7 +6,7 @@ use libc::STDOUT_FILENO;
 use text::Written;
 
 // How many bytes of the buffer wait, and whether a write failed: that is told once, and nothing more is written.
-#[derive(Drop)]
+#[derive(Clone, Copy)]
 pub struct Out {
     pub waiting: usize,
     pub failed: bool,

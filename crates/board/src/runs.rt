@@ -10,7 +10,7 @@ use deck::ReadIn;
 use input::Input;
 
 // What is to be done with a deck and an image: a run, as lamps or as lines, or turns of two boards.
-#[derive(Drop)]
+#[derive(Clone, Copy)]
 pub enum Wanted {
     Run(bool),
     Two,

@@ -13,7 +13,7 @@ use run::Ending;
 use trap::Trapped;
 
 // A trap after so many cycles; one that no run reaches stands for none.
-#[derive(Drop)]
+#[derive(Clone, Copy)]
 pub struct Trap {
     pub after: u32,
     pub address: u32,

@@ -13,14 +13,14 @@ pub use modelled::unmodelled;
 pub use status::changed;
 
 // How a store is read: as the basic machine's, or as the figure of the 1620 feature gives it.
-#[derive(Drop)]
+#[derive(Clone, Copy)]
 pub enum Reading {
     Basic,
     Compatibility,
 }
 
 // What a branch may test.
-#[derive(Drop)]
+#[derive(Clone, Copy)]
 pub struct Tested {
     pub r: u8,
     pub v: u8,

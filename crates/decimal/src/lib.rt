@@ -16,7 +16,7 @@ use run::Finished;
 use storage::Fence;
 
 // Summed has the carry and the count of cycles, a bad digit the count, a refusal its number.
-#[derive(Drop)]
+#[derive(Clone, Copy)]
 pub enum Added {
     Summed(bool, u32),
     BadDigit(u32),

@@ -10,13 +10,13 @@ ghost use Rattle.deck.specs.Deck.{groups_of, bytes_of, block_at, number_in, coun
 
 use digits::first_of;
 
-#[derive(Drop)]
+#[derive(Clone, Copy)]
 pub enum ReadIn {
     Words(usize),
     Refused(u8),
 }
 
-#[derive(Drop)]
+#[derive(Clone, Copy)]
 pub enum Writing {
     Bytes(usize),
     Refused(u8),

@@ -17,7 +17,7 @@ use word::{Apart, Fields};
 
 // What the lamps show. With nothing arriving the arriving byte means nothing. FWX is the WX that a trap broke into, and a return is owed
 // until a return word has run.
-#[derive(Drop)]
+#[derive(Clone, Copy)]
 pub struct State {
     pub i: u8,
     pub j: u8,
@@ -47,7 +47,7 @@ pub struct State {
 }
 
 // A refusal has its number and, where that is 10, the field's place in the word.
-#[derive(Drop)]
+#[derive(Clone, Copy)]
 pub enum Cycled {
     Ran(State),
     Stopped(State),
@@ -55,7 +55,7 @@ pub enum Cycled {
 }
 
 // What the adder does in a word, or nothing where no sum would be made.
-#[derive(Drop)]
+#[derive(Clone, Copy)]
 pub enum NextSum {
     Sums(Work),
     Nothing,

@@ -10,7 +10,7 @@ use codes::Reading;
 use machine::{Cycled, State};
 use storage::Fence;
 
-#[derive(Drop)]
+#[derive(Clone, Copy)]
 pub enum Ending {
     Stopped,
     Refused(u8, u8),
@@ -18,7 +18,7 @@ pub enum Ending {
 }
 
 // How a run ended, the state then, and how many cycles ran.
-#[derive(Drop)]
+#[derive(Clone, Copy)]
 pub struct Finished {
     pub ending: Ending,
     pub state: State,

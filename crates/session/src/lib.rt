@@ -14,14 +14,14 @@ use machine::{Cycled, State};
 use storage::Fence;
 
 // The boards of a session.
-#[derive(Drop)]
+#[derive(Clone, Copy)]
 pub enum Board {
     A,
     B,
 }
 
 // What a turn answered, and both boards' states after it.
-#[derive(Drop)]
+#[derive(Clone, Copy)]
 pub struct BothAfter {
     pub answer: Cycled,
     pub a: State,

@@ -9,14 +9,14 @@ ghost use Rattle.signed.specs.Signed.{greatest, fifteen, bad_place, read_signed,
 use digits::byte_at;
 
 // The number of a field, or how it is refused.
-#[derive(Drop)]
+#[derive(Clone, Copy)]
 pub enum ReadOut {
     Number(i64),
     Refused(u8),
 }
 
 // The field is written, or how it is refused.
-#[derive(Drop)]
+#[derive(Clone, Copy)]
 pub enum Wrote {
     Written,
     Refused(u8),

@@ -8,7 +8,7 @@ use digits::bit;
 use word::Fields;
 
 // What storage sees of a state.
-#[derive(Drop)]
+#[derive(Clone, Copy)]
 pub struct Seen {
     pub i: u8,
     pub j: u8,
@@ -24,7 +24,7 @@ pub struct Seen {
 }
 
 // The address, the kind and the latch after the word, and what storage is to do.
-#[derive(Drop)]
+#[derive(Clone, Copy)]
 pub struct Access {
     pub m: u8,
     pub n: u8,
@@ -35,7 +35,7 @@ pub struct Access {
 }
 
 // The part of main storage that a board may use: a start, and an end that is not in it.
-#[derive(Drop)]
+#[derive(Clone, Copy)]
 pub struct Fence {
     pub start: usize,
     pub end: usize,

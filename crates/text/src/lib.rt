@@ -9,7 +9,7 @@ ghost use Rattle.text.specs.Text.{capital, hexadecimal, field_digits, three_digi
 pub use refusals::words;
 
 // The number of bytes that a text takes, or how it is refused.
-#[derive(Drop)]
+#[derive(Clone, Copy)]
 pub enum Written {
     Text(usize),
     Refused(u8),

@@ -7,7 +7,7 @@ ghost use Rattle.trap.specs.Trap.{trap_of};
 use machine::State;
 
 // A refusal has its number.
-#[derive(Drop)]
+#[derive(Clone, Copy)]
 pub enum Trapped {
     Taken(State),
     Refused(State, u8),

@@ -13,7 +13,7 @@ ghost use Rattle.word.specs.Word.{k_checks, fault_of, taken_apart, in_width, pac
 use digits::first_of;
 
 // The 18 fields other than PN, PA, PS and PC. `asb` is AS, whose name is a word of the language.
-#[derive(Drop)]
+#[derive(Clone, Copy)]
 pub struct Fields {
     pub cn: u8,
     pub ch: u8,
@@ -35,13 +35,13 @@ pub struct Fields {
     pub asb: u8,
 }
 
-#[derive(Drop)]
+#[derive(Clone, Copy)]
 pub enum Apart {
     Fields(Fields),
     Refused(u8),
 }
 
-#[derive(Drop)]
+#[derive(Clone, Copy)]
 pub enum Packed {
     Word(u64),
     Refused(u8),

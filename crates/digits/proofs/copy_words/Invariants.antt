@@ -1,0 +1,19 @@
+-- One word a turn, while there is one and room for it. Assumes nothing.
+use Prim.Native.Nat.{ℕ, ◌-◌, ◌≤◌, ◌<◌}
+use mathlib.Core.Path.{◌≡◌, refl, ◌∙◌}
+use mathlib.Core.List.{◌++◌}
+use mathlib.Core.Bool.{true, ◌&&◌}
+use native.Mathlib.Omega.{arith}
+use lib.ListN.{length, take, drop, length-set}
+use lib.Dec.{ltb}
+use borrow.Author.Rules.{rules}
+use borrow.Author.Tests.{ltb-true}
+use Rattle.digits.proofs.Copies.{copy_step, copy_end}
+use Rattle.digits.proofs.Truth.{both}
+use Rattle.digits.proofs.copy_words.Given as goal
+
+abbrev pub invariant-loop-k : goal.invariant-loop-k
+invariant-loop-k l = (l.k ≤ length l.from) × (l.k ≤ length l.initial.to) × (length l.to ≡ length l.initial.to) × (l.to ≡ take l.k l.from ++ drop l.k l.initial.to)
+
+abbrev pub decreases-loop-k : goal.decreases-loop-k
+decreases-loop-k l = length l.from - l.k

@@ -1,0 +1,19 @@
+-- From the last byte on: what is still to put, before what is put. Assumes nothing.
+use Prim.Native.Nat.{ℕ, ◌+◌, ◌-◌, ◌*◌, ◌/◌, ◌%◌, ◌<◌, ◌≤◌}
+use mathlib.Core.Path.{◌≡◌, ap, ◌∙◌}
+use mathlib.Core.List.{◌++◌, append-nil}
+use native.Mathlib.Omega.{arith}
+use lib.ListN.{length, drop, length-set}
+use lib.Seq.{drop-length}
+use borrow.Author.Rules.{rules}
+use Rattle.digits.specs.Packed.{in_bytes}
+use Rattle.digits.proofs.Puts.{put_before}
+use Rattle.signed.specs.Signed.{signed_field}
+use Rattle.signed.proofs.Fields.{ended, last_byte_lem}
+use Rattle.signed.proofs.put.Given as goal
+
+abbrev pub invariant-loop-i : goal.invariant-loop-i
+invariant-loop-i l = (length l.field ≡ 8) × (l.i ≤ 8) × (l.low < 16) × (in_bytes (ended l.i l.rest l.low) ++ drop l.i l.field ≡ signed_field l.size l.sign)
+
+abbrev pub decreases-loop-i : goal.decreases-loop-i
+decreases-loop-i l = l.i
