@@ -89,3 +89,14 @@ found_is reading f =
       where_applies (not (ca_to_w f)) f.ca (0 ∷ 1 ∷ 2 ∷ 3 ∷ 6 ∷ []) refl,
       where_applies (is_basic reading) f.cs (5 ∷ 15 ∷ 15 ∷ 15 ∷ 15 ∷ []) refl,
     ) (simp or_self_left)
+
+-- the codes as the scan has them, from what each test gave
+pub found_of : (reading : Reading) (f : Fields) (basic : Bool) (ch cl cu_write cu_read ca cs : ℕ) → basic ≡ is_basic reading
+    → ch ≡ cond (not basic) f.ch 255 → cl ≡ cond basic f.cl 255 → cu_write ≡ cond (ltb f.cm 3) f.cu 255 → cu_read ≡ cond (leb 3 f.cm) f.cu 255
+    → ca ≡ cond (not (ca_to_w f)) f.ca 255 → cs ≡ cond basic f.cs 255
+    → found (f.ch ∷ ch ∷ f.cl ∷ cl ∷ f.cm ∷ cu_write ∷ cu_read ∷ ca ∷ f.aa ∷ f.ak ∷ f.cd ∷ f.cs ∷ cs ∷ f.asb ∷ []) 0 14 ≡ unmodelled_of reading f
+found_of reading f basic ch cl cu_write cu_read ca cs is h l w r a s =
+    let ch_is = h ∙ λ i. cond (not (is i)) f.ch 255 in
+    let cl_is = l ∙ λ i. cond (is i) f.cl 255 in
+    let cs_is = s ∙ λ i. cond (is i) f.cs 255 in
+    (λ i. found (f.ch ∷ ch_is i ∷ f.cl ∷ cl_is i ∷ f.cm ∷ w i ∷ r i ∷ a i ∷ f.aa ∷ f.ak ∷ f.cd ∷ f.cs ∷ cs_is i ∷ f.asb ∷ []) 0 14) ∙ found_is reading f

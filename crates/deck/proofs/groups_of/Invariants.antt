@@ -1,0 +1,13 @@
+-- One group a turn. Assumes nothing.
+use Rattle.std.proofs.Common.{◌≡◌, ◌-◌, ◌*◌, ◌≤◌, ◌++◌, length, get_or, take, drop, sym, ◌∙◌, append-nil, arith, length-drop, length-set, length-take, take_all, rules}
+use native.Mathlib.Nat.{add-sub_cancel_left}
+use Rattle.deck.specs.Deck.{groups_of}
+use Rattle.digits.proofs.Copies.{copy_step}
+use Rattle.deck.proofs.Groups.{length_groups, groups_at}
+use Rattle.deck.proofs.groups_of.Given as goal
+
+abbrev pub invariant-loop-i : goal.invariant-loop-i
+invariant-loop-i l = (l.i ≤ 64) × (length l.gs ≡ 64) × (l.gs ≡ take l.i (groups_of l.block) ++ drop l.i l.initial.gs)
+
+abbrev pub decreases-loop-i : goal.decreases-loop-i
+decreases-loop-i l = 64 - l.i

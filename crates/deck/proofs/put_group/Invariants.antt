@@ -1,0 +1,13 @@
+-- From the low end: the bytes still to put, before those that are put. Assumes nothing.
+use Rattle.std.proofs.Common.{◌≡◌, ◌-◌, ◌/◌, ◌%◌, ◌≤◌, ◌++◌, length, drop, refl, ◌∙◌, append-nil, arith, length-set, rules}
+use lib.Seq.{drop-length}
+use Rattle.digits.specs.Number.{digits_of}
+use Rattle.digits.proofs.Number.{digits_last}
+use Rattle.digits.proofs.Puts.{put_before}
+use Rattle.deck.proofs.put_group.Given as goal
+
+abbrev pub invariant-loop-i : goal.invariant-loop-i
+invariant-loop-i l = (l.i ≤ length l.initial.out) × (length l.out ≡ length l.initial.out) × (digits_of 8 l.i l.rest ++ drop l.i l.out ≡ digits_of 8 (length l.initial.out) l.number)
+
+abbrev pub decreases-loop-i : goal.decreases-loop-i
+decreases-loop-i l = l.i

@@ -1,0 +1,18 @@
+-- From the low end: the digits still to put, before those that are put. Assumes nothing.
+use Prim.Native.Nat.{ℕ, zero, suc, ◌+◌, ◌-◌, ◌/◌, ◌%◌, ◌<◌, ◌≤◌}
+use mathlib.Core.Path.{◌≡◌, refl, ◌∙◌}
+use mathlib.Core.List.{[], ◌∷◌, ◌++◌, map, map-append, append-nil}
+use native.Mathlib.Omega.{arith}
+use lib.ListN.{length, drop, length-set}
+use lib.Seq.{drop-length}
+use borrow.Author.Rules.{rules}
+use Rattle.digits.specs.Tens.{last_digits}
+use Rattle.digits.proofs.Puts.{put_before}
+use Rattle.figures.specs.Figures.{figure}
+use Rattle.figures.proofs.put_figures.Given as goal
+
+abbrev pub invariant-loop-i : goal.invariant-loop-i
+invariant-loop-i l = (l.i ≤ length l.initial.out) × (length l.out ≡ length l.initial.out) × (map figure (last_digits l.i l.rest) ++ drop l.i l.out ≡ map figure (last_digits (length l.initial.out) l.number))
+
+abbrev pub decreases-loop-i : goal.decreases-loop-i
+decreases-loop-i l = l.i
