@@ -40,11 +40,11 @@ returns c =
     let number = c.args.number in
     let same : to_z w64 (of_z w64 number) ≡ number = reads number c.ranges.number in
     let count = c.digit_count-end.result in
-    let size = c.size.result in
-    let put : c.put_figures.new.text ≡ map figure (last_digits count size) = rw (length_room count c.digit_count-end.ensures.1) at c.put_figures.ensures in
-    let is_long : length c.put_figures.new.text ≡ count = ap length put ∙ length-map (last_digits count size) figure ∙ length_last count size in
-    let digits : c.put_figures.new.text ≡ figures (nat_abs number) =
-      put ∙ ap (λ (k : ℕ). map figure (last_digits k size)) c.digit_count-end.ensures.0 ∙ ap figures (rw same at c.size.ensures) in
+    let size = c.size-size.result in
+    let put : c.put_figures.new.out ≡ map figure (last_digits count size) = rw (length_room count c.digit_count-end.ensures.1) at c.put_figures.ensures in
+    let is_long : length c.put_figures.new.out ≡ count = ap length put ∙ length-map (last_digits count size) figure ∙ length_last count size in
+    let digits : c.put_figures.new.out ≡ figures (nat_abs number) =
+      put ∙ ap (λ (k : ℕ). map figure (last_digits k size)) c.digit_count-end.ensures.0 ∙ ap figures (rw same at c.size-size.ensures) in
     let minus : lt_z (to_z w64 (of_z w64 number)) (pos 0) ≡ below_zero number = rw same (below_zero_lem number) in
-    let text = shown (below_zero number) c.put_figures.new.text (past count) count is_long ∙ ap (λ (ds : List ℕ). minus_before (below_zero number) ++ ds) digits in
+    let text = shown (below_zero number) c.put_figures.new.out (past count) count is_long ∙ ap (λ (ds : List ℕ). minus_before (below_zero number) ++ ds) digits in
     rw (c.one.ensures.0 ∙ ap one minus, text) at c.put.ensures
