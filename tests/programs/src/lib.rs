@@ -54,7 +54,7 @@ pub fn run(command: &mut Command, input: &[u8]) -> Said {
 static READY: LazyLock<()> = LazyLock::new(|| {
     for name in ["lister", "ship", "board"] {
         let mut command = Command::new(root().join("tools/proved"));
-        let said = run(command.arg(root().join("target/bin").join(name)).args(["rt", "check", name]), &[]);
+        let said = run(command.arg(root().join("target/bin").join(name)).args(["tools/crate", name]), &[]);
         assert_eq!(said.status, Some(0), "{}", said.err);
     }
 });
@@ -78,9 +78,12 @@ pub fn typed_in(folder: &Path, line: &str) -> Said {
     run(Command::new("bash").args(["-c", line]).current_dir(folder), &[])
 }
 
-/// A folder of this test's own under target/, empty.
+/// A folder of this test's own, empty. It is outside the repository, in which rt ci takes no link and no second crates.txt; .ci/run
+/// removes it.
 pub fn folder(name: &str) -> PathBuf {
-    let folder = root().join("target/tried").join(name);
+    let root = root();
+    let own = root.strip_prefix("/").expect("a path from /");
+    let folder = std::env::temp_dir().join("eggpannier-tried").join(own).join(name);
     drop(std::fs::remove_dir_all(&folder));
     std::fs::create_dir_all(&folder).expect("a folder");
     folder

@@ -31,8 +31,9 @@ fn below(name: &str) -> BTreeSet<String> {
     let plan = std::fs::read_to_string(root().join("crates.txt")).expect("crates.txt");
     let (mut found, mut todo) = (BTreeSet::new(), vec![name.to_owned()]);
     while let Some(next) = todo.pop() {
-        let line = plan.lines().find_map(|line| line.strip_prefix(&format!("{next}:"))).unwrap_or_default();
-        todo.extend(line.split('#').next().unwrap_or_default().split_whitespace().map(str::to_owned));
+        let lines = plan.lines().filter_map(|line| line.split('#').next()?.split_once(':'));
+        let line = lines.filter(|(of, _)| of.split_whitespace().next() == Some(&next)).map(|(_, names)| names).next();
+        todo.extend(line.unwrap_or_default().split_whitespace().map(str::to_owned));
         found.insert(next);
     }
     found

@@ -8,7 +8,7 @@ use std::os::unix::fs::{symlink, PermissionsExt};
 use std::path::{Path, PathBuf};
 use std::process::{Command, Stdio};
 
-/// A repository of one crate, with the tools and the lister's root command of this one, and a kit beside it. Its program is a
+/// A repository of two crates, with the tools and the lister's root command of this one, and a kit beside it. Its program is a
 /// script, which every processor runs as it is.
 struct Bench {
     here: PathBuf,
@@ -19,29 +19,37 @@ fn script(path: &Path, text: &str) {
     fs::set_permissions(path, fs::Permissions::from_mode(0o755)).expect("that can be run");
 }
 
-/// Proves where there is no file `broken`, and builds a program that says what the crate's file has.
+/// Proves in a crate's folder where there is no file `broken`, builds a program that says what the file of the crate below has, and
+/// runs it, for a second at most. What it has built of the same files it does not build again.
 const KIT: &str = "#!/bin/sh
-echo $* >>calls
-if [ -e broken ]; then echo 'rt: FAILED: deck'; exit 1; fi
-mkdir -p target/bin target/stamp
-[ -e target/stamp/$2 ] || printf '#!/bin/sh\\necho %s $*\\n' \"$(cat crates/deck/file)\" >target/bin/$2
-chmod +x target/bin/$2
-echo \"rt: $2 proved (1 s)\"
+name=$(basename \"$PWD\")
+echo $name $* >>../../calls
+echo \"rt: chose --jobs 2 for $name\" >&2
+if [ -e ../../broken ]; then echo 'rt: the library deck did not build, so nothing above it was checked' >&2; exit 1; fi
+mkdir -p out
+if [ \"$(cat out/$name.stamp 2>/dev/null)\" != \"$(cat ../deck/file; cksum <out/$name)\" ]; then
+    printf '#!/bin/sh\\necho %s $*\\n' \"$(cat ../deck/file)\" >out/$name
+    chmod +x out/$name
+    { cat ../deck/file; cksum <out/$name; } >out/$name.stamp
+fi
+echo \"rt: running out/$name; to give it other input, run that file yourself\" >&2
+exec timeout 1 out/$name
 ";
 
 impl Bench {
     fn new(name: &str) -> Bench {
         let here = folder(name);
-        for part in ["kit", "tools", "crates/deck"] {
+        for part in ["kit", "tools", "crates/deck", "crates/lister/src"] {
             fs::create_dir_all(here.join(part)).expect("a folder");
         }
-        for tool in ["tools/proved", "tools/program", "lister"] {
+        for tool in ["tools/proved", "tools/program", "tools/crate", "lister"] {
             fs::copy(root().join(tool), here.join(tool)).expect(tool);
         }
         script(&here.join("tools/x86"), "#!/bin/sh\nexec \"$@\"\n");
         script(&here.join("kit/rt"), KIT);
         let bench = Bench { here };
         bench.write("crates.txt", "deck:\n");
+        bench.write("crates/lister/src/main.rt", "");
         bench.write("crates/deck/file", "first");
         bench
     }
@@ -79,7 +87,7 @@ impl Bench {
         let bench = Bench::new(name);
         bench.write("crates/deck/file", &format!("first; {script} #"));
         let mut command = bench.command_at(&bench.here.join("tools/proved"), true);
-        let said = run(command.arg(bench.here.join("target/bin/lister")).args(["rt", "check", "lister"]), &[]);
+        let said = run(command.arg(bench.here.join("target/bin/lister")).args(["tools/crate", "lister"]), &[]);
         assert_eq!(said.status, Some(0), "{said:?}");
         bench
     }
@@ -143,10 +151,14 @@ fn what_was_proved_is_known_by_its_bytes() {
 fn another_program_in_its_place_is_not_run() {
     let bench = Bench::new("place");
     ran(&bench.lister(true), "first x\n");
-    bench.write("target/stamp/lister", "");
-    script(&bench.here.join("target/bin/lister"), "#!/bin/sh\necho another\n");
+    for place in ["target/bin/lister", "crates/lister/out/lister"] {
+        script(&bench.here.join(place), "#!/bin/sh\necho another\n");
+    }
     did_not_run(&bench.lister(false));
     ran(&bench.lister(true), "first x\n");
+    script(&bench.here.join("crates/lister/out/lister"), "#!/bin/sh\necho another\n");
+    ran(&bench.lister(true), "first x\n");
+    assert_eq!(bench.calls(), 2);
 }
 
 #[test]

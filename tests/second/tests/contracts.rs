@@ -66,13 +66,13 @@ const NOT_WHOLE: [&str; 54] = [
 
 /// What the program `board` promises of all that it shows but the buffer, each by the definition that its contract cites.
 const SHOWN: [(&str, &str); 7] = [
-    ("go", "≡ runOf budget "),
+    ("go", "≡ run_of budget "),
     ("broken_run", "BrokenInto budget "),
-    ("turns", "≡ afterTurns (turnsOf (rules .turns) "),
-    ("answered", "≡ fromRun done (runOf (bound size) "),
-    ("summed", "≡ answerOf operation "),
-    ("lay_out", "≡ laidOut size "),
-    ("say", "≡ putOf (saidOf operation "),
+    ("turns", "≡ after_turns (turns_of rules.turns "),
+    ("answered", "≡ from_run done (run_of (bound size) "),
+    ("summed", "≡ answer_of operation "),
+    ("lay_out", "≡ laid_out size "),
+    ("say", "≡ put_of (said_of operation "),
 ];
 
 fn root() -> PathBuf {
@@ -167,13 +167,13 @@ fn no_public_function_of_a_library_has_a_requires() {
 
 /// The theorem that no second answer fits a function's contract, by the generated reading of that contract.
 fn sole(crate_name: &str, function: &str, proofs: &str) -> Option<String> {
-    let front = format!("use Rattle·{crate_name}·proofs.proofs.");
+    let front = format!("use Rattle.{crate_name}.proofs.");
     let of_it =
         |line: &&str| line.rsplit_once(".Reads as ").is_some_and(|(path, _)| path.rsplit('.').next() == Some(function));
     let used = proofs.lines().filter(|line| line.starts_with(&front)).find(of_it)?;
     let post = format!(" {}.Post κs args ", used.rsplit_once(" as ")?.1);
     let theorems = proofs.lines().filter_map(|line| line.strip_prefix("pub ")?.split_once(" : "));
-    let mut fitting = theorems.filter(|(name, text)| name.ends_with("-sole") && text.matches(&post).count() == 2);
+    let mut fitting = theorems.filter(|(name, text)| name.ends_with("_sole") && text.matches(&post).count() == 2);
     fitting.next().map(|(name, _)| format!("{crate_name}:{name}"))
 }
 
@@ -234,28 +234,28 @@ const SOURCE: &str = "pub fn a() -> u8 {
 }
 
 pub fn b(x: u8)
-    requires { ⌜ x < 2 ⌝ }
+    requires { x < 2 }
 {
 }
 
 fn private(x: u8)
-    requires { ⌜ x < 2 ⌝ }
+    requires { x < 2 }
 {
 }
 
-#[no_mangle]
+#[unsafe(no_mangle)]
 pub extern \"C\" fn c(
     x: u8,
 ) -> u32
-    ensures { λ r. ⌜ r ≡ 0 ⌝ }
-    requires { ⌜ x < 2 ⌝ }
+    ensures { result ≡ 0 }
+    requires { x < 2 }
 {
     0
 }
 
 impl S {
     pub fn d(self) -> u8
-        requires { ⌜ self .x < 2 ⌝ }
+        requires { self.x < 2 }
     {
         0
     }
@@ -271,9 +271,9 @@ fn a_requires_is_seen_wherever_it_stands() {
 fn a_promise_that_is_not_whole_is_seen() {
     assert_eq!(public(SOURCE, "ensures").1, ["c"]);
     let all = functions(SOURCE);
-    let used = "use Rattle·k·proofs.proofs.m.c.Reads as c-of\n";
-    let theorem = "pub c-sole : (κs : _) (args : _) → c-of.Post κs args r x → c-of.Post κs args s y → r ≡ s\n";
-    let row = "| `k:c` | 0. | `k:c-sole` | none |";
+    let used = "use Rattle.k.proofs.m.c.Reads as c-of\n";
+    let theorem = "pub c_sole : (κs : _) (args : _) → c-of.Post κs args r x → c-of.Post κs args s y → r ≡ s\n";
+    let row = "| `k:c` | 0. | `k:c_sole` | none |";
     let tried = |function: usize, proofs: &str, row: &str| fault("k", &all[function], &[proofs.to_owned()], row);
     assert_eq!(tried(3, &format!("{used}{theorem}"), row), None);
     assert!(tried(3, theorem, row).is_some(), "a theorem of another contract");
@@ -283,5 +283,5 @@ fn a_promise_that_is_not_whole_is_seen() {
     assert!(tried(0, &format!("{used}{theorem}"), row).is_some(), "no ensures");
     let read = Function { name: "read", public: true, contract: Vec::new() };
     assert_eq!(fault("input", &read, &[], "| `input:read` | The count. | none | none |"), None);
-    assert!(fault("input", &read, &[], "| `input:read` | The bytes. | `input:read-sole` | none |").is_some());
+    assert!(fault("input", &read, &[], "| `input:read` | The bytes. | `input:read_sole` | none |").is_some());
 }

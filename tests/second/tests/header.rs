@@ -90,7 +90,7 @@ fn passed(parameter: &str) -> Vec<Parameter> {
 
 fn exported(source: &str) -> Vec<Signature> {
     let mut found = Vec::new();
-    for part in source.split("#[no_mangle]\npub extern \"C\" fn ").skip(1) {
+    for part in source.split("#[unsafe(no_mangle)]\npub extern \"C\" fn ").skip(1) {
         let (name, rest) = part.split_once('(').expect("parameters");
         let (parameters, rest) = rest.split_once(") -> ").expect("a result");
         let result = rest.split_whitespace().next().expect("the result's type");
@@ -115,15 +115,16 @@ fn constants(header: &str, name: &str) -> Vec<String> {
     body.split(',').map(|c| c.split('=').next().expect("a name").trim().to_owned()).filter(|c| !c.is_empty()).collect()
 }
 
-/// The constants of a channel, as `latchOf "AC" "AC" (λ s. s .ac)`: by the field that it shows.
+/// The constants of a channel, as `latch_of "AC" "AC" (λ s. s.ac)`: by the field that it shows.
 fn named(channel: &str) -> Vec<String> {
-    let field = channel.split(" .").nth(1).expect("a field").split(')').next().expect("its end");
+    let shown = channel.split("(λ ").nth(1).expect("what it shows").split(')').next().expect("its end");
+    let (_, field) = shown.rsplit_once('.').expect("a field");
     let name = match field.trim_matches(['«', '»']) {
         "one_bc" => "PANEL_1BC".to_owned(),
         "local_selected" => "PANEL_LOCAL".to_owned(),
         field => format!("PANEL_{}", field.to_uppercase()),
     };
-    if channel.trim_start().starts_with("pairOf ") {
+    if channel.trim_start().starts_with("pair_of ") {
         return vec![format!("{name}_HIGH"), format!("{name}_LOW")];
     }
     vec![name]
@@ -175,7 +176,7 @@ fn the_page_lists_the_channels() {
 
 #[test]
 fn the_work_is_that_of_the_record() {
-    has_the_channels("panel_work", "workChannels", "WORK");
+    has_the_channels("panel_work", "work_channels", "WORK");
 }
 
 #[test]

@@ -38,7 +38,7 @@ fn first_two(rows: &[Vec<&str>]) -> Vec<(String, String)> {
 fn every_refusal_is_told_in_its_words() {
     let page = read("docs/NUMBERS.md");
     let specs = read("crates/text/specs/Words.antt");
-    let words = listed(&specs, "refusalWords");
+    let words = listed(&specs, "refusal_words");
     assert_eq!(words.len(), 34, "0 to 33");
     for (number, text) in words.iter().enumerate() {
         assert!(specs.contains(&format!("\"{text}\" ∷  -- {number}\n")), "the number beside {text:?}");
@@ -59,7 +59,7 @@ fn every_refusal_says_what_it_means_and_who_asks() {
 #[test]
 fn every_field_is_told_by_its_name() {
     let page = read("docs/NUMBERS.md");
-    let names = listed(&read("crates/lamps/specs/Ending.antt"), "fieldNames");
+    let names = listed(&read("crates/lamps/specs/Ending.antt"), "field_names");
     let fields = rows(&page, "Fields");
     assert_eq!(first_two(&fields), numbered(&names));
     let widths: Vec<_> = fields.iter().map(|row| (row[1], row[2].parse::<u32>().expect("bits"))).collect();

@@ -46,7 +46,7 @@ fn declares(line: &str, name: &str) -> bool {
     let Some(after) = rest.strip_prefix(name) else {
         return false;
     };
-    let part = |c: char| c.is_alphanumeric() || c == '_' || c == '-' || c == '′';
+    let part = |c: char| c.is_alphanumeric() || c == '_' || c == '-' || c == '\'';
     let at_end = !after.starts_with(part);
     at_end && (rest.len() < line.trim_start().len() || after.starts_with(" :"))
 }
@@ -142,7 +142,7 @@ fn every_must_fail_edit_is_cited() {
 fn public_function(line: &str) -> Option<&str> {
     let rest = line.strip_prefix("pub ")?;
     let rest = rest.strip_prefix("extern \"C\" ").unwrap_or(rest).strip_prefix("fn ")?;
-    rest.split('(').next()
+    rest.split(['(', '<']).next()
 }
 
 #[test]
