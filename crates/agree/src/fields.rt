@@ -2,7 +2,7 @@
 use crate::{at_most, less, mix_bytes};
 
 // How much storage is lent, the two starts, the length, and the carry in or whether to subtract.
-#[derive(Drop)]
+#[derive(Clone, Copy)]
 pub struct Trial {
     pub main: usize,
     pub local: usize,

@@ -8,7 +8,7 @@ use agree::Trial;
 use decimal::Added;
 
 // The generator's last number, and the digest.
-#[derive(Drop)]
+#[derive(Clone, Copy)]
 struct Going {
     x: u64,
     digest: u64,

@@ -1,14 +1,13 @@
 // Single cycles against tests/second, and the work that would be done in each: drawn words, readings, states and storage sizes.
 #![tactic(auto)]
 
-use agree::Lent;
+use agree::{Lent, STDOUT_FILENO};
 use codes::Reading;
-use libc::STDOUT_FILENO;
 use machine::{Cycled, NextSum, State};
 use word::Fields;
 
 // A case: the reading, the word that stands at WX, the state, and how much of each storage is lent.
-#[derive(Drop)]
+#[derive(Clone, Copy)]
 struct Trial {
     reading: Reading,
     word: u64,
@@ -17,7 +16,7 @@ struct Trial {
 }
 
 // The generator's last number, and the digest.
-#[derive(Drop)]
+#[derive(Clone, Copy)]
 struct Going {
     x: u64,
     digest: u64,

@@ -7,7 +7,7 @@ use decimal::Added;
 use storage::Fence;
 
 // The generator's last number, and the digest.
-#[derive(Drop)]
+#[derive(Clone, Copy)]
 struct Going {
     x: u64,
     digest: u64,

@@ -4,11 +4,11 @@
 ghost use Rattle.std.specs.Prelude.{◌≤◌};
 
 use deck::{ReadIn, Writing};
-use libc::STDOUT_FILENO;
+use agree::STDOUT_FILENO;
 use text::Written;
 
 // The generator's last number, and the digest.
-#[derive(Drop)]
+#[derive(Clone, Copy)]
 struct Going {
     x: u64,
     digest: u64,

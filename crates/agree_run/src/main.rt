@@ -5,13 +5,13 @@ ghost use Rattle.std.specs.Prelude.{◌<◌};
 
 use agree::Lent;
 use codes::Reading;
-use libc::STDOUT_FILENO;
+use agree::STDOUT_FILENO;
 use machine::State;
 use run::{Ending, Finished};
 
 // A run: the reading that its words were drawn for and its own, the state that it starts from, how much of each storage is lent,
 // its budget, and the rate of words that seldom run.
-#[derive(Drop)]
+#[derive(Clone, Copy)]
 struct Trial {
     filled: Reading,
     reading: Reading,
@@ -22,7 +22,7 @@ struct Trial {
 }
 
 // The generator's last number, the digest, and how many cycles ran.
-#[derive(Drop)]
+#[derive(Clone, Copy)]
 struct Going {
     x: u64,
     digest: u64,

@@ -10,7 +10,7 @@ use std::num::wrapping_add_usize;
 use storage::Fence;
 
 // The generator's last number, and the digest.
-#[derive(Drop)]
+#[derive(Clone, Copy)]
 struct Going {
     x: u64,
     digest: u64,
@@ -76,7 +76,7 @@ fn seldom_moved(z: u64, m: usize, near: Fence, f: Fence) -> Fence {
     f
 }
 
-#[derive(Drop)]
+#[derive(Clone, Copy)]
 struct Fences {
     a: Fence,
     b: Fence,
@@ -352,7 +352,7 @@ fn turns(g: Going, store: &mut [u64], main: &mut [u8], local: &mut [u8]) -> Goin
 // ---- sessions
 
 // How much main storage is lent, both boards' fences and states, the reading, and in which style turns are drawn.
-#[derive(Drop)]
+#[derive(Clone, Copy)]
 struct Session {
     main: usize,
     a: Fence,
@@ -430,7 +430,7 @@ fn after_turn(s: Session, of_a: bool, t: BothAfter, moved: bool, x: u64) -> Sess
     }
 }
 
-#[derive(Drop)]
+#[derive(Clone, Copy)]
 struct Went {
     going: Going,
     session: Session,

@@ -5,7 +5,7 @@
 use signed::{ReadOut, Wrote};
 
 // The generator's last number, and the digest.
-#[derive(Drop)]
+#[derive(Clone, Copy)]
 struct Going {
     x: u64,
     digest: u64,

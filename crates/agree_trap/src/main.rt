@@ -8,7 +8,7 @@ use trap::Trapped;
 use word::Fields;
 
 // The generator's last number, and the digest.
-#[derive(Drop)]
+#[derive(Clone, Copy)]
 struct Going {
     x: u64,
     digest: u64,
@@ -257,7 +257,7 @@ fn trap_address(y: u64) -> u32 {
 }
 
 // A run's reading and state, and what goes on beside it.
-#[derive(Drop)]
+#[derive(Clone, Copy)]
 struct Broken {
     reading: Reading,
     going: Going,

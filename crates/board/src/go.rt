@@ -10,14 +10,14 @@ use machine::{Cycled, NextSum, State};
 use run::{Ending, Finished};
 
 // How cycles are shown, as lamps or as lines, and which.
-#[derive(Drop)]
+#[derive(Clone, Copy)]
 pub struct View {
     pub lamps: bool,
     pub from: u32,
     pub to: u32,
 }
 
-#[derive(Drop)]
+#[derive(Clone, Copy)]
 pub struct Went {
     pub finished: Finished,
     pub out: Out,

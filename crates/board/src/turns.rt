@@ -15,14 +15,14 @@ use std::num::wrapping_add_u32;
 use storage::Fence;
 
 // How many turns a board took, and how the last of them ended: spent while the board goes on.
-#[derive(Drop)]
+#[derive(Clone, Copy)]
 pub struct Course {
     pub turns: u32,
     pub ending: Ending,
 }
 
 // Both boards' states and courses, and what was shown of them.
-#[derive(Drop)]
+#[derive(Clone, Copy)]
 pub struct Played {
     pub a: State,
     pub b: State,
@@ -32,7 +32,7 @@ pub struct Played {
 }
 
 // What is asked of the turns.
-#[derive(Drop)]
+#[derive(Clone, Copy)]
 pub struct Rules {
     pub view: View,
     pub a: Fence,
