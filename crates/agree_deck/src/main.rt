@@ -3,8 +3,8 @@
 
 ghost use Rattle.std.specs.Prelude.{◌≤◌};
 
-use deck::{ReadIn, Writing};
 use agree::STDOUT_FILENO;
+use deck::{ReadIn, Writing};
 use text::Written;
 
 // The generator's last number, and the digest.
