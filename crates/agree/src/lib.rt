@@ -11,8 +11,10 @@ pub use draw::{
     drawn_rate, fill_store, modelled, packed, raw, reading_of, with_right_pk, word_for,
 };
 pub use fields::{Trial, drawn_fields, mix_ends, put_byte, two_digits};
-use libc::STDOUT_FILENO;
 pub use state::{drawn_state, eight, mix_state, near};
+
+// The descriptor of standard output.
+pub const STDOUT_FILENO: i32 = 1;
 
 // xorshift64: the number after `x`, which is not 0.
 pub fn next(x: u64) -> u64 {

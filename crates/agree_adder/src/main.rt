@@ -3,7 +3,7 @@
 #![tactic(auto)]
 
 use adder::{Controls, Sum};
-use libc::STDOUT_FILENO;
+use agree::STDOUT_FILENO;
 
 // All that the adder hands back, as one number.
 fn value(z: Sum) -> u64 {

@@ -1,9 +1,8 @@
 // Single cycles against tests/second, and the work that would be done in each: drawn words, readings, states and storage sizes.
 #![tactic(auto)]
 
-use agree::Lent;
+use agree::{Lent, STDOUT_FILENO};
 use codes::Reading;
-use libc::STDOUT_FILENO;
 use machine::{Cycled, NextSum, State};
 use word::Fields;
 

@@ -3,8 +3,8 @@
 
 ghost use Rattle.std.specs.Prelude.{◌≤◌};
 
+use agree::STDOUT_FILENO;
 use deck::{ReadIn, Writing};
-use libc::STDOUT_FILENO;
 use text::Written;
 
 // The generator's last number, and the digest.

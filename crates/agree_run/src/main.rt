@@ -3,9 +3,8 @@
 
 ghost use Rattle.std.specs.Prelude.{◌<◌};
 
-use agree::Lent;
+use agree::{Lent, STDOUT_FILENO};
 use codes::Reading;
-use libc::STDOUT_FILENO;
 use machine::State;
 use run::{Ending, Finished};
 

@@ -1,7 +1,7 @@
 // Taking apart and packing against tests/second: drawn words, fields and addresses, within their limits and beyond.
 #![tactic(auto)]
 
-use libc::STDOUT_FILENO;
+use agree::STDOUT_FILENO;
 use word::{Apart, Fields, Packed};
 
 // The generator's last number, and the digest.

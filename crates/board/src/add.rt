@@ -15,6 +15,7 @@ use crate::{go, options, out, tell};
 use codes::Reading;
 use decimal::Added;
 use machine::State;
+use std::rt::Env;
 use text::Written;
 
 // Add with a carry; or add or subtract with signs, AP or SP.
@@ -171,9 +172,9 @@ fn say(
 }
 
 // A number as it was typed.
-fn typed(out: Out, at: usize, room: &mut [u8]) -> Out {
+fn typed(rt: &impl Env, out: Out, at: usize, room: &mut [u8]) -> Out {
     let mut text = [0u8; 40];
-    let n = os::arg(at, &mut text);
+    let n = input::arg(rt, at, &mut text);
     out::text(out, &text[..n], room)
 }
 
@@ -193,7 +194,7 @@ fn name(operation: Operation, out: Out, room: &mut [u8]) -> Out {
 }
 
 // The numbers as they were typed, from that argument on, and the result after them.
-fn added(view: View, operation: Operation, at: usize, first: &[u8], second: &[u8])
+fn added(rt: &impl Env, view: View, operation: Operation, at: usize, first: &[u8], second: &[u8])
     requires at_bound { at ≤ 3 }
     requires first_value { (digits_fit 16 32 first.now ≡ true) × (digits_fit 16 32 second.now ≡ true) }
 {
@@ -201,9 +202,9 @@ fn added(view: View, operation: Operation, at: usize, first: &[u8], second: &[u8
     let mut line = [0u8; 128];
     let said = say(view, operation, first, second, &mut line, &mut room);
     let text = said.text;
-    let out = typed(said.out, at, &mut room);
+    let out = typed(rt, said.out, at, &mut room);
     let out = name(operation, out, &mut room);
-    let out = typed(out, at + 1, &mut room);
+    let out = typed(rt, out, at + 1, &mut room);
     let Written::Text(size) = text else {
         tell::line(b"the result was not made");
         return;
@@ -221,11 +222,11 @@ struct Task {
 }
 
 // A carry of 0 or 1 after the numbers, where there is one.
-fn with_carry(at: usize) -> Task
+fn with_carry(rt: &impl Env, at: usize) -> Task
     requires { at ≤ 5 }
 {
     let mut text = [0u8; 2];
-    let n = os::arg(at, &mut text);
+    let n = input::arg(rt, at, &mut text);
     let one = check::same(&text[..n], b"1");
     let given = one | check::same(&text[..n], b"0");
     Task {
@@ -235,7 +236,7 @@ fn with_carry(at: usize) -> Task
     }
 }
 
-fn task_of(operation: Operation, at: usize) -> Task
+fn task_of(rt: &impl Env, operation: Operation, at: usize) -> Task
     requires { at ≤ 5 }
 {
     if has_signs(operation) {
@@ -245,17 +246,24 @@ fn task_of(operation: Operation, at: usize) -> Task
             at: at,
         };
     }
-    with_carry(at)
+    with_carry(rt, at)
 }
 
-fn with_numbers(lamps: bool, operation: Operation, at: usize, first: &[u8], second: &[u8])
+fn with_numbers(
+    rt: &impl Env,
+    lamps: bool,
+    operation: Operation,
+    at: usize,
+    first: &[u8],
+    second: &[u8],
+)
     requires at_bound { at ≤ 3 }
     requires first_value { (digits_fit 16 32 first.now ≡ true) × (digits_fit 16 32 second.now ≡ true) }
 {
-    let task = task_of(operation, at + 2);
+    let task = task_of(rt, operation, at + 2);
     let operation = task.operation;
     let takes = task.takes;
-    let Asked::Options(o) = options::read(task.at, takes) else {
+    let Asked::Options(o) = options::read(rt, task.at, takes) else {
         return;
     };
     let view = View {
@@ -263,7 +271,7 @@ fn with_numbers(lamps: bool, operation: Operation, at: usize, first: &[u8], seco
         from: o.from,
         to: o.to,
     };
-    added(view, operation, at, first, second);
+    added(rt, view, operation, at, first, second);
 }
 
 fn wrong(at: usize, signs: bool) -> usize
@@ -288,11 +296,11 @@ fn put_digits(signs: bool, text: &[u8], room: &mut [u8]) -> Written {
 }
 
 // Reads a number, its sign as the last digit; how many digits that is, or 0 where it is wrong, which is told.
-fn number_at(at: usize, signs: bool, room: &mut [u8]) -> usize
+fn number_at(rt: &impl Env, at: usize, signs: bool, room: &mut [u8]) -> usize
     ensures { (result ≤ length room.new) × (0 < result → digits_fit 16 32 (take result room.new) ≡ true) }
 {
     let mut text = [0u8; 40];
-    let n = os::arg(at, &mut text);
+    let n = input::arg(rt, at, &mut text);
     let Written::Text(size) = put_digits(signs, &text[..n], room) else {
         return wrong(at, signs);
     };
@@ -306,21 +314,21 @@ fn number_at(at: usize, signs: bool, room: &mut [u8]) -> usize
 }
 
 // Two numbers, perhaps a carry, and options.
-pub fn add(lamps: bool, operation: Operation) {
+pub fn add(rt: &impl Env, lamps: bool, operation: Operation) {
     let at = options::first_at(lamps);
-    if !tell::enough(at + 1) {
+    if !tell::enough(rt, at + 1) {
         return;
     }
     let signs = has_signs(operation);
     let mut first = [0u8; 40];
-    let n = number_at(at, signs, &mut first);
+    let n = number_at(rt, at, signs, &mut first);
     if n == 0 {
         return;
     }
     let mut second = [0u8; 40];
-    let m = number_at(at + 1, signs, &mut second);
+    let m = number_at(rt, at + 1, signs, &mut second);
     if m == 0 {
         return;
     }
-    with_numbers(lamps, operation, at, &first[0..n], &second[0..m]);
+    with_numbers(rt, lamps, operation, at, &first[0..n], &second[0..m]);
 }

@@ -8,6 +8,7 @@ use codes::Reading;
 use machine::State;
 use session::Board;
 use std::num::wrapping_add_u8;
+use std::rt::Env;
 
 // Both boards' registers, the reading, and which cycles are shown.
 #[derive(Clone, Copy)]
@@ -130,9 +131,9 @@ fn of_both(at: usize, o: Both, given: Given, seen: &mut [u8]) -> Asked {
 }
 
 // One argument more; what was given is marked.
-fn option(at: usize, o: Both, seen: &mut [u8]) -> Asked {
+fn option(rt: &impl Env, at: usize, o: Both, seen: &mut [u8]) -> Asked {
     let mut text = [0u8; 24];
-    let n = os::arg(at, &mut text);
+    let n = input::arg(rt, at, &mut text);
     if text[1] == b'.' {
         return of_one(at, o, &text[..n], seen);
     }
@@ -140,13 +141,13 @@ fn option(at: usize, o: Both, seen: &mut [u8]) -> Asked {
 }
 
 // All arguments from `first` on; a wrong one is told.
-pub fn read(first: usize) -> Asked {
-    let count = os::arg_count();
+pub fn read(rt: &impl Env, first: usize) -> Asked {
+    let count = input::arg_count(rt);
     let mut seen = [0u8; 31];
     let mut o = none();
     let mut at = first;
     while at < count {
-        match option(at, o, &mut seen) {
+        match option(rt, at, o, &mut seen) {
             Asked::Both(next) => {
                 o = next;
             }

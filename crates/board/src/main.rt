@@ -14,7 +14,8 @@ mod turns;
 mod two;
 
 use add::Operation;
-use libc::STDOUT_FILENO;
+use out::STDOUT_FILENO;
+use std::rt::{Env, Files};
 
 fn usage() {
     let written = io::write_all(
@@ -45,14 +46,14 @@ READING=C reads the deck as the compatibility store: CH 8 is R2, CL 4 G1, CL 6 R
     }
 }
 
-fn help() {
-    if tell::no_more(2) {
+fn help(rt: &impl Env) {
+    if tell::no_more(rt, 2) {
         usage();
     }
 }
 
-fn walk() {
-    if !tell::no_more(2) {
+fn walk(rt: &impl Env) {
+    if !tell::no_more(rt, 2) {
         return;
     }
     let mut room = [0u8; 65536];
@@ -110,40 +111,40 @@ fn named(word: &[u8]) -> Command {
     Command::Other
 }
 
-fn command_at(at: usize) -> Command {
+fn command_at(rt: &impl Env, at: usize) -> Command {
     let mut word = [0u8; 16];
-    let n = os::arg(at, &mut word);
+    let n = input::arg(rt, at, &mut word);
     named(&word[..n])
 }
 
-fn as_lamps() {
-    if !tell::enough(2) {
+fn as_lamps(rt: &(impl Env + Files)) {
+    if !tell::enough(rt, 2) {
         return;
     }
-    match command_at(2) {
-        Command::Add => add::add(true, Operation::Add(false)),
-        Command::Ap => add::add(true, Operation::Signed(false)),
-        Command::Sp => add::add(true, Operation::Signed(true)),
-        Command::Run => runs::run(true),
+    match command_at(rt, 2) {
+        Command::Add => add::add(rt, true, Operation::Add(false)),
+        Command::Ap => add::add(rt, true, Operation::Signed(false)),
+        Command::Sp => add::add(rt, true, Operation::Signed(true)),
+        Command::Run => runs::run(rt, true),
         _ => tell::wrong(2, b"is neither add, ap, sp nor run"),
     }
 }
 
-fn main() {
-    if os::arg_count() < 2 {
+fn main(rt: HostRuntime) {
+    if input::arg_count(&rt) < 2 {
         usage();
         return;
     }
-    match command_at(1) {
-        Command::Add => add::add(false, Operation::Add(false)),
-        Command::Ap => add::add(false, Operation::Signed(false)),
-        Command::Sp => add::add(false, Operation::Signed(true)),
-        Command::Run => runs::run(false),
-        Command::Two => runs::two(),
-        Command::Lamps => as_lamps(),
-        Command::Walk => walk(),
-        Command::Signed => readout::signed(),
-        Command::Help => help(),
+    match command_at(&rt, 1) {
+        Command::Add => add::add(&rt, false, Operation::Add(false)),
+        Command::Ap => add::add(&rt, false, Operation::Signed(false)),
+        Command::Sp => add::add(&rt, false, Operation::Signed(true)),
+        Command::Run => runs::run(&rt, false),
+        Command::Two => runs::two(&rt),
+        Command::Lamps => as_lamps(&rt),
+        Command::Walk => walk(&rt),
+        Command::Signed => readout::signed(&rt),
+        Command::Help => help(&rt),
         Command::Other => tell::wrong(
             1,
             b"is neither add, ap, sp, run, two, lamps, walk, signed nor help",

@@ -5,6 +5,7 @@ use crate::{tell, traps};
 use arguments::Given;
 use codes::Reading;
 use machine::State;
+use std::rt::Env;
 
 #[derive(Clone, Copy)]
 pub struct Options {
@@ -88,12 +89,12 @@ fn register(at: usize, o: Options, takes: Takes, place: u8, value: u16, seen: &m
 }
 
 // A trap, which is looked up again when its cycle comes; there are no two of one cycle.
-fn trap(at: usize, first: usize, o: Options, takes: Takes) -> Asked {
+fn trap(rt: &impl Env, at: usize, first: usize, o: Options, takes: Takes) -> Asked {
     let Takes::Registers = takes else {
         return wrong(at, takes);
     };
-    let after = traps::asked(at).after;
-    if traps::next(first, at, after).after == after {
+    let after = traps::asked(rt, at).after;
+    if traps::next(rt, first, at, after).after == after {
         tell::wrong(at, b"was given before");
         return Asked::Wrong;
     }
@@ -116,14 +117,21 @@ fn read_as(at: usize, o: Options, takes: Takes, reading: Reading, seen: &mut [u8
 }
 
 // One argument more.
-fn option(at: usize, first: usize, o: Options, takes: Takes, seen: &mut [u8]) -> Asked {
+fn option(
+    rt: &impl Env,
+    at: usize,
+    first: usize,
+    o: Options,
+    takes: Takes,
+    seen: &mut [u8],
+) -> Asked {
     let mut text = [0u8; 24];
-    let n = os::arg(at, &mut text);
+    let n = input::arg(rt, at, &mut text);
     match arguments::given_of(&text[..n]) {
         Given::Register(place, value) => register(at, o, takes, place, value, seen),
         Given::From(cycle) => once(at, 14, seen, Options { from: cycle, ..o }),
         Given::To(cycle) => once(at, 15, seen, Options { to: cycle, ..o }),
-        Given::Trap(_, _) => trap(at, first, o, takes),
+        Given::Trap(_, _) => trap(rt, at, first, o, takes),
         Given::Basic => read_as(at, o, takes, Reading::Basic, seen),
         Given::Compatibility => read_as(at, o, takes, Reading::Compatibility, seen),
         Given::Wrong => wrong(at, takes),
@@ -131,13 +139,13 @@ fn option(at: usize, first: usize, o: Options, takes: Takes, seen: &mut [u8]) ->
 }
 
 // All arguments from `first` on; a wrong one is told.
-pub fn read(first: usize, takes: Takes) -> Asked {
-    let count = os::arg_count();
+pub fn read(rt: &impl Env, first: usize, takes: Takes) -> Asked {
+    let count = input::arg_count(rt);
     let mut seen = [0u8; 17];
     let mut o = none();
     let mut at = first;
     while at < count {
-        match option(at, first, o, takes, &mut seen) {
+        match option(rt, at, first, o, takes, &mut seen) {
             Asked::Options(next) => {
                 o = next;
             }

@@ -2,8 +2,10 @@
 ghost use Rattle.std.specs.Prelude.{◌≤◌, length};
 
 use crate::tell;
-use libc::STDOUT_FILENO;
 use text::Written;
+
+// The descriptor of standard output.
+pub(crate) const STDOUT_FILENO: i32 = 1;
 
 // How many bytes of the buffer wait, and whether a write failed: that is told once, and nothing more is written.
 #[derive(Clone, Copy)]

@@ -2,6 +2,7 @@
 use crate::{out, tell};
 use arguments::Whole;
 use signed::{ReadOut, Wrote};
+use std::rt::Env;
 use text::Written;
 
 // A text and a line feed.
@@ -52,12 +53,12 @@ fn write(number: i64) {
 }
 
 // Sixteen hexadecimal digits are a field, and all else is a number.
-pub fn signed() {
-    if !tell::enough(2) | !tell::no_more(3) {
+pub fn signed(rt: &impl Env) {
+    if !tell::enough(rt, 2) | !tell::no_more(rt, 3) {
         return;
     }
     let mut typed = [0u8; 64];
-    let n = os::arg(2, &mut typed);
+    let n = input::arg(rt, 2, &mut typed);
     if (n == 16) & arguments::is_number(&typed[..n], 16) {
         read(&typed[..n]);
         return;

@@ -8,6 +8,8 @@ use crate::{go, options, out, tell, traps, two};
 use arguments::Number;
 use deck::ReadIn;
 use input::Input;
+use std::fs::File;
+use std::rt::{Env, Files};
 
 // What is to be done with a deck and an image: a run, as lamps or as lines, or turns of two boards.
 #[derive(Clone, Copy)]
@@ -16,24 +18,26 @@ pub enum Wanted {
     Two,
 }
 
-fn read_from(fd: i32, room: &mut [u8]) -> Input
+// The file of that path, which is open while it is read. A path is UTF-8, so no other names a file.
+fn read_from(rt: &impl Files, path: &[u8], room: &mut [u8]) -> Input
     ensures { Inside result (length room.new) }
 {
-    if fd < 0 {
+    let Ok(path) = str::from_utf8(path) else {
         return Input::Failed;
-    }
-    let read = input::read(fd, room);
-    libc::close(fd);
-    read
+    };
+    let Ok(mut file) = File::open(rt, path) else {
+        return Input::Failed;
+    };
+    input::read(&mut file, room)
 }
 
 // Reads the file that an argument names into the room, or tells that it cannot be read.
-fn read_file(at: usize, room: &mut [u8]) -> Input
+fn read_file(rt: &(impl Env + Files), at: usize, room: &mut [u8]) -> Input
     ensures { Inside result (length room.new) }
 {
     let mut path = io::buffer();
-    let n = os::arg(at, &mut path);
-    let read = read_from(os::open_read(&path[..n]), room);
+    let n = input::arg(rt, at, &mut path);
+    let read = read_from(rt, &path[..n], room);
     if let Input::Failed = read {
         tell::wrong(at, b"cannot be read");
     }
@@ -41,8 +45,8 @@ fn read_file(at: usize, room: &mut [u8]) -> Input
 }
 
 // All that a run asks is there: the words, the image and the budget.
-fn over(lamps: bool, words: &[u64], main: &mut [u8], budget: u32, first: usize) {
-    let Asked::Options(o) = options::read(first, Takes::Registers) else {
+fn over(rt: &impl Env, lamps: bool, words: &[u64], main: &mut [u8], budget: u32, first: usize) {
+    let Asked::Options(o) = options::read(rt, first, Takes::Registers) else {
         return;
     };
     let view = View {
@@ -55,15 +59,15 @@ fn over(lamps: bool, words: &[u64], main: &mut [u8], budget: u32, first: usize) 
     let mut room = [0u8; 65536];
     let out = go::begin(view, o.state, &mut room);
     let went = traps::broken_run(
-        view, reading, words, main, &mut local, o.state, budget, first, out, &mut room,
+        rt, view, reading, words, main, &mut local, o.state, budget, first, out, &mut room,
     );
     let out = go::end(went.finished, went.out, &mut room);
     out::flush(out, &room);
 }
 
-fn budget(at: usize) -> Number {
+fn budget(rt: &impl Env, at: usize) -> Number {
     let mut text = [0u8; 16];
-    let n = os::arg(at, &mut text);
+    let n = input::arg(rt, at, &mut text);
     let number = arguments::number_of(&text[..n]);
     if let Number::Wrong = number {
         tell::wrong(at, b"is not a number of cycles up to 1000000");
@@ -71,58 +75,58 @@ fn budget(at: usize) -> Number {
     number
 }
 
-fn with_words(wanted: Wanted, words: &[u64], at: usize)
+fn with_words(rt: &(impl Env + Files), wanted: Wanted, words: &[u64], at: usize)
     requires { at ≤ 4 }
 {
     let mut main = [0u8; 65537];
-    let Input::Bytes(size) = read_file(at, &mut main) else {
+    let Input::Bytes(size) = read_file(rt, at, &mut main) else {
         return;
     };
     if (size == 0) | (65536 < size) {
         tell::wrong(at, b"is not an image of 1 to 65536 bytes");
         return;
     }
-    let Number::Is(cycles) = budget(at + 1) else {
+    let Number::Is(cycles) = budget(rt, at + 1) else {
         return;
     };
     let image = &mut main[0..size];
     match wanted {
-        Wanted::Run(lamps) => over(lamps, words, image, cycles, at + 2),
-        Wanted::Two => two::over(words, image, cycles, at + 2),
+        Wanted::Run(lamps) => over(rt, lamps, words, image, cycles, at + 2),
+        Wanted::Two => two::over(rt, words, image, cycles, at + 2),
     }
 }
 
-fn with_deck(wanted: Wanted, deck: &[u8], words: &mut [u64], at: usize)
+fn with_deck(rt: &(impl Env + Files), wanted: Wanted, deck: &[u8], words: &mut [u64], at: usize)
     requires { at ≤ 3 }
 {
     match deck::read(deck, words) {
         ReadIn::Refused(number) => tell::refused(at, number),
-        ReadIn::Words(count) => with_words(wanted, &words[0..count], at + 1),
+        ReadIn::Words(count) => with_words(rt, wanted, &words[0..count], at + 1),
     }
 }
 
 // A deck, an image, a number of cycles, and what follows them. A longer deck fills the room, and is refused.
-fn from_files(wanted: Wanted, at: usize)
+fn from_files(rt: &(impl Env + Files), wanted: Wanted, at: usize)
     requires { at ≤ 3 }
 {
     let mut bytes = [0u8; 34305];
     let mut words = [0u64; 4096];
-    let Input::Bytes(n) = read_file(at, &mut bytes) else {
+    let Input::Bytes(n) = read_file(rt, at, &mut bytes) else {
         return;
     };
-    with_deck(wanted, &bytes[0..n], &mut words, at);
+    with_deck(rt, wanted, &bytes[0..n], &mut words, at);
 }
 
-pub fn run(lamps: bool) {
+pub fn run(rt: &(impl Env + Files), lamps: bool) {
     let at = options::first_at(lamps);
-    if tell::enough(at + 2) {
-        from_files(Wanted::Run(lamps), at);
+    if tell::enough(rt, at + 2) {
+        from_files(rt, Wanted::Run(lamps), at);
     }
 }
 
 // Two boards: two fences and an order more.
-pub fn two() {
-    if tell::enough(7) {
-        from_files(Wanted::Two, 2);
+pub fn two(rt: &(impl Env + Files)) {
+    if tell::enough(rt, 7) {
+        from_files(rt, Wanted::Two, 2);
     }
 }

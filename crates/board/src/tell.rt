@@ -1,6 +1,9 @@
 // What is told on standard error. A program has no exit status: the root command gives 1 where anything stands there.
-use libc::STDERR_FILENO;
+use std::rt::Env;
 use text::Written;
+
+// The descriptor of standard error.
+const STDERR_FILENO: i32 = 2;
 
 pub fn line(text: &[u8]) {
     io::write_all(STDERR_FILENO, b"board: ");
@@ -90,8 +93,8 @@ pub fn missed(cycle: u64) {
 }
 
 // There are as many arguments as a command asks, the command among them.
-pub fn enough(asked: usize) -> bool {
-    let count = os::arg_count();
+pub fn enough(rt: &impl Env, asked: usize) -> bool {
+    let count = input::arg_count(rt);
     if asked < count {
         return true;
     }
@@ -100,8 +103,8 @@ pub fn enough(asked: usize) -> bool {
 }
 
 // And no more.
-pub fn no_more(asked: usize) -> bool {
-    if os::arg_count() <= asked {
+pub fn no_more(rt: &impl Env, asked: usize) -> bool {
+    if input::arg_count(rt) <= asked {
         return true;
     }
     wrong(asked, b"is one too many");

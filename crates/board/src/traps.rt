@@ -10,6 +10,7 @@ use arguments::Given;
 use codes::Reading;
 use machine::State;
 use run::Ending;
+use std::rt::Env;
 use trap::Trapped;
 
 // A trap after so many cycles; one that no run reaches stands for none.
@@ -31,9 +32,9 @@ fn none() -> Trap
 }
 
 // The trap that an argument asks for.
-pub fn asked(at: usize) -> Trap {
+pub fn asked(rt: &impl Env, at: usize) -> Trap {
     let mut text = [0u8; 24];
-    let n = os::arg(at, &mut text);
+    let n = input::arg(rt, at, &mut text);
     let Given::Trap(cycle, address) = arguments::given_of(&text[..n]) else {
         return none();
     };
@@ -61,13 +62,13 @@ fn sooner(found: Trap, trap: Trap, from: u32) -> Trap
 }
 
 // The next trap after that many cycles or more, of those that the arguments ask for from `first` up to `end`.
-pub fn next(first: usize, end: usize, from: u32) -> Trap
+pub fn next(rt: &impl Env, first: usize, end: usize, from: u32) -> Trap
     ensures { from ≤ result.after }
 {
     let mut found = none();
     let mut at = first;
     while at < end {
-        found = sooner(found, asked(at), from);
+        found = sooner(found, asked(rt, at), from);
         at += 1;
     }
     found
@@ -114,6 +115,7 @@ fn show(answer: Trapped, out: Out, room: &mut [u8]) -> Out {
 
 // Runs up to each trap, and after the last until stop, refusal or budget, and shows each cycle and each trap.
 pub fn broken_run(
+    rt: &impl Env,
     view: View,
     reading: Reading,
     store: &[u64],
@@ -127,11 +129,11 @@ pub fn broken_run(
 ) -> Went
     ensures { BrokenInto budget reading store.now main.old local.old state (outcome result.finished main.new local.new) }
 {
-    let end = os::arg_count();
+    let end = input::arg_count(rt);
     let mut now = state;
     let mut done: u32 = 0;
     let mut out = begun;
-    let mut trap = next(first, end, 0);
+    let mut trap = next(rt, first, end, 0);
     while trap.after < budget {
         let leg = trap.after - done;
         let went = go::go(view, done, reading, store, main, local, now, leg, out, room);
@@ -145,7 +147,7 @@ pub fn broken_run(
         out = show(answer, went.out, room);
         now = state_of(answer);
         done = trap.after;
-        trap = next(first, end, done + 1);
+        trap = next(rt, first, end, done + 1);
     }
     let leg = budget - done;
     let went = go::go(view, done, reading, store, main, local, now, leg, out, room);

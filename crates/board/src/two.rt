@@ -10,11 +10,12 @@ use arguments::Bounds;
 use machine::State;
 use run::Ending;
 use session::Board;
+use std::rt::Env;
 use storage::Fence;
 
-fn bounds(at: usize) -> Bounds {
+fn bounds(rt: &impl Env, at: usize) -> Bounds {
     let mut text = [0u8; 24];
-    let n = os::arg(at, &mut text);
+    let n = input::arg(rt, at, &mut text);
     let found = arguments::bounds_of(&text[..n]);
     if let Bounds::Wrong = found {
         tell::wrong(
@@ -38,10 +39,10 @@ fn all_name(text: &[u8]) -> bool {
 }
 
 // How many letters an order has, or 0.
-fn order(at: usize, text: &mut [u8]) -> usize
+fn order(rt: &impl Env, at: usize, text: &mut [u8]) -> usize
     ensures { result ≤ length text.new }
 {
-    let n = os::arg(at, text);
+    let n = input::arg(rt, at, text);
     if (0 < n) & (n <= 64) {
         if all_name(&text[..n]) {
             return n;
@@ -107,15 +108,23 @@ fn play(words: &[u64], main: &mut [u8], rules: Rules, order: &[u8], o: Both)
 }
 
 // The fences, the order and the options are there.
-fn with_order(words: &[u64], main: &mut [u8], budget: u32, first: usize, a: Fence, b: Fence)
+fn with_order(
+    rt: &impl Env,
+    words: &[u64],
+    main: &mut [u8],
+    budget: u32,
+    first: usize,
+    a: Fence,
+    b: Fence,
+)
     requires { first ≤ 8 }
 {
     let mut text = [0u8; 72];
-    let n = order(first, &mut text);
+    let n = order(rt, first, &mut text);
     if n == 0 {
         return;
     }
-    let Asked::Both(o) = both::read(first + 1) else {
+    let Asked::Both(o) = both::read(rt, first + 1) else {
         return;
     };
     let number = session::open(main.len(), a, b);
@@ -137,13 +146,13 @@ fn with_order(words: &[u64], main: &mut [u8], budget: u32, first: usize, a: Fenc
 }
 
 // All that turns ask is there: the words, the image and the budget.
-pub(crate) fn over(words: &[u64], main: &mut [u8], budget: u32, first: usize)
+pub(crate) fn over(rt: &impl Env, words: &[u64], main: &mut [u8], budget: u32, first: usize)
     requires { first ≤ 6 }
 {
-    let Bounds::Are(start, end) = bounds(first) else {
+    let Bounds::Are(start, end) = bounds(rt, first) else {
         return;
     };
-    let Bounds::Are(other_start, other_end) = bounds(first + 1) else {
+    let Bounds::Are(other_start, other_end) = bounds(rt, first + 1) else {
         return;
     };
     let a = Fence {
@@ -154,5 +163,5 @@ pub(crate) fn over(words: &[u64], main: &mut [u8], budget: u32, first: usize)
         start: other_start as usize,
         end: other_end as usize,
     };
-    with_order(words, main, budget, first + 2, a, b);
+    with_order(rt, words, main, budget, first + 2, a, b);
 }

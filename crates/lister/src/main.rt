@@ -2,8 +2,12 @@
 #![tactic(auto)]
 
 use input::Input;
-use libc::{STDERR_FILENO, STDIN_FILENO, STDOUT_FILENO};
 use text::Written;
+
+// The descriptors of standard output and standard error.
+const STDOUT_FILENO: i32 = 1;
+
+const STDERR_FILENO: i32 = 2;
 
 fn tell(line: &[u8]) {
     io::write_all(STDERR_FILENO, line);
@@ -19,9 +23,9 @@ fn tell_refusal(text: &[u8]) {
 // The deck's room is one byte longer than any deck: longer input fills it, and is refused by 15.
 // The text's room is 19 bytes for each of 4,096 words, which holds the text of every deck. A program
 // has no exit status, so a failure is told on standard error.
-fn main() {
+fn main(rt: HostRuntime) {
     let mut deck = [0u8; 34305];
-    let input = input::read(STDIN_FILENO, &mut deck);
+    let input = input::read(&mut rt.stdin(), &mut deck);
     let Input::Bytes(length) = input else {
         tell(b"lister: the input was not read\n");
         return;

@@ -10,7 +10,10 @@ ghost use Rattle.ship.specs.Block.{OneBlock};
 ghost use Rattle.ship.specs.Lesson.{lesson};
 ghost use Rattle.ship.specs.Readings.{readings};
 
-use libc::{STDERR_FILENO, STDOUT_FILENO};
+// The descriptors of standard output and standard error.
+const STDOUT_FILENO: i32 = 1;
+
+const STDERR_FILENO: i32 = 2;
 
 // One block, since the words are at most 62. None of them is refused.
 fn deck_of(words: &[u64]) -> [u8; 512]
@@ -111,8 +114,8 @@ fn named(word: &[u8]) {
 }
 
 // The decimal add where no program is named.
-fn main() {
-    let count = os::arg_count();
+fn main(rt: HostRuntime) {
+    let count = input::arg_count(&rt);
     if count < 2 {
         write(&add_deck());
         return;
@@ -122,6 +125,6 @@ fn main() {
         return;
     }
     let mut word = [0u8; 16];
-    let n = os::arg(1, &mut word);
+    let n = input::arg(&rt, 1, &mut word);
     named(&word[..n]);
 }
