@@ -9,8 +9,12 @@ use Rattle.decimal.proofs.Kept.{promised}
 use borrow.Author.Rules.{rules}
 use Rattle.decimal.proofs.add_in.Goals as goal
 
-pub returns-clause-run : goal.returns-clause-run
-returns-clause-run c = ?
-
-pub returns-clause-promise : goal.returns-clause-promise
-returns-clause-promise c = ?
+pub returns : goal.returns
+unfolding add_in
+returns c =
+    let a = c.args in
+    let m = a.main.now in
+    let l = a.local.now in
+    let checks = add_checks a.fence (length m) (length l) a.first a.second a.length in
+    let is = c.entry.ensures ∙ (λ i. entry_by SUMMED checks (run_in (bound a.length) a.fence Basic (c.words.ensures i) m l (start_with a.first a.second a.length (c.with_bit-status.ensures i))) m l) in
+    record { run = is; promise = promised checks tt a.fence m l a.first a.second a.length a.carry (accepted a.fence (length m) (length l) a.first a.second a.length) _ _ _ is }
