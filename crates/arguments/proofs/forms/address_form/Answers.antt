@@ -1,0 +1,8 @@
+-- Two tests. Assumes nothing.
+use borrow.Author.Rules.{rules}
+use Rattle.arguments.specs.Arguments.{address_form}
+use Rattle.arguments.proofs.forms.address_form.Goals as goal
+
+pub returns : goal.returns
+unfolding address_form
+returns c = rw (c.names.ensures, c.digits_fit.ensures, c.after.ensures)
