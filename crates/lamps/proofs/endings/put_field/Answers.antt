@@ -3,7 +3,6 @@ use Prim.Native.Nat.{◌+◌, ◌-◌, ◌*◌}
 use mathlib.Core.Path.{◌≡◌}
 use native.Mathlib.Nat.{add-sub_cancel_left}
 use native.Mathlib.Omega.{arith}
-use borrow.Author.Rules.{rules}
 use Rattle.lamps.specs.Ending.{field_of}
 use Rattle.lamps.proofs.Told.{field_at, no_field, field_short, none_put}
 use Rattle.lamps.proofs.endings.put_field.Goals as goal
@@ -12,12 +11,14 @@ pub returns-then-field-eq0 : goal.returns-then-field-eq0
 unfolding field_of
 returns-then-field-eq0 c =
     let a = c.args in
-    none_put 3 a.at a.room.now (field_of a.field) (rw c.if-field-eq0.true)
+    let p = none_put 3 a.at a.room.now (field_of a.field) (rw c.if-field-eq0.true) in
+    record { upper_bound = p.0; value = p.1 }
 
 pub returns-then-field-gt22 : goal.returns-then-field-gt22
 returns-then-field-gt22 c =
     let a = c.args in
-    none_put 3 a.at a.room.now (field_of a.field) (no_field a.field c.if-field-gt22.true)
+    let p = none_put 3 a.at a.room.now (field_of a.field) (no_field a.field c.if-field-gt22.true) in
+    record { upper_bound = p.0; value = p.1 }
 
 pub returns : goal.returns
 returns c =

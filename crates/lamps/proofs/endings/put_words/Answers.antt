@@ -3,7 +3,6 @@ use Prim.Native.Nat.{ℕ}
 use mathlib.Core.Path.{◌≡◌, sym, ◌∙◌}
 use native.Mathlib.Omega.{arith}
 use lib.ListN.{length}
-use borrow.Author.Rules.{rules}
 use Rattle.text.specs.Words.{words_of}
 use Rattle.text.specs.declared.Written.TheVariants as W
 use Rattle.text.proofs.Promises.{written_tells}

@@ -1,6 +1,5 @@
 -- The blocks of the record, under the names of its rows. Assumes nothing.
 use mathlib.Core.Path.{refl, ap, ◌∙◌}
-use borrow.Author.Rules.{rules}
 use Rattle.channels.specs.Channels.{channels, saved}
 use Rattle.lamps.specs.Columns.{digit_counts}
 use Rattle.lamps.specs.Picture.{blocks_bytes}
@@ -9,7 +8,7 @@ use Rattle.lamps.proofs.pictures.put_state.Goals as goal
 
 pub put_blocks-requires : goal.put_blocks-requires
 unfolding saved
-put_blocks-requires c = rw c.saved.ensures ((refl, refl), c.requires)
+put_blocks-requires c = rw c.saved.ensures (record { names_len = (refl, refl); bytes_in_bounds = c.requires })
 
 pub returns : goal.returns
 returns c =

@@ -1,6 +1,5 @@
 -- The blocks of the record, under the names of its rows. Assumes nothing.
 use mathlib.Core.Path.{refl, ap, ◌∙◌}
-use borrow.Author.Rules.{rules}
 use Rattle.channels.specs.Channels.{work_channels, worked}
 use Rattle.lamps.specs.Columns.{digit_counts}
 use Rattle.lamps.specs.Picture.{blocks_bytes}
@@ -9,7 +8,7 @@ use Rattle.lamps.proofs.pictures.put_work.Goals as goal
 
 pub put_blocks-requires : goal.put_blocks-requires
 unfolding worked
-put_blocks-requires c = rw c.worked.ensures ((refl, refl), c.requires)
+put_blocks-requires c = rw c.worked.ensures (record { names_len = (refl, refl); bytes_in_bounds = c.requires })
 
 pub returns : goal.returns
 returns c =

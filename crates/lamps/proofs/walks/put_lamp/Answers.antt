@@ -18,8 +18,8 @@ put_cells-requires c =
     let row = c.args.row in
     let x = c.args.byte in
     let lent : length (take record_length (alone row x)) ≡ record_length = length-take record_length (alone row x) ∙ rw (length_alone row x) in
-    let out = c.after2.new.1.0 in
-    ((sym lent, sym lent), rw (alone_cells row x) (length_record row x ∙ sym (length-take (3 * record_length) (drop 10 out) ∙ rw (length-drop 10 out) (search rules))))
+    let out = c.after.new.room in
+    record { spaces_len = (sym lent, sym lent); bytes_len = rw (alone_cells row x) (length_record row x ∙ sym (length-take (3 * record_length) (drop 10 out) ∙ rw (length-drop 10 out) (search rules))) }
 
 pub returns : goal.returns
 unfolding walk_line
@@ -31,8 +31,8 @@ returns c =
     let lit = hex_bytes (alone row x) in
     let h : length (walk_line row (n, x)) ≤ length out = omega (arith, c.requires.1, length_line row (n, x) c.requires.0) in
     let p = put_none (walk_line row (n, x)) out in
-    let p = then p (row_name row) (n ∷ (lit ++ (10 ∷ []))) refl c.name.ensures c.after.ensures h in
-    let p = then p (n ∷ []) (lit ++ (10 ∷ [])) refl refl c.after2.ensures h in
-    let ten : c.after2.result ≡ 10 = omega (arith, c.after.ensures.0, c.after2.ensures.0, ap length c.name.ensures, length_name row c.requires.0) in
+    let p = then p (row_name row) (n ∷ (lit ++ (10 ∷ []))) refl c.name.ensures c.after-at.ensures h in
+    let p = then p (n ∷ []) (lit ++ (10 ∷ [])) refl refl c.after.ensures h in
+    let ten : c.after.result ≡ 10 = omega (arith, c.after-at.ensures.0, c.after.ensures.0, ap length c.name.ensures, length_name row c.requires.0) in
     let p = put_turn (rw ten at p) lit (10 ∷ []) _ (3 * record_length) refl (length_record row x) (c.put_cells.ensures ∙ alone_cells row x) h in
     put_all (then p (10 ∷ []) [] refl refl c.after-2.ensures h) ∙ over_full (walk_line row (n, x)) out (omega (arith, c.requires.1, length_line row (n, x) c.requires.0))
