@@ -1,5 +1,5 @@
 -- One block a turn: the front that is put, and the blocks that are left. Assumes nothing.
-use Prim.Native.Nat.{◌+◌, ◌*◌, ◌≤◌}
+use Prim.Native.Nat.{◌+◌, ◌*◌}
 use mathlib.Core.Path.{◌≡◌}
 use native.Mathlib.Omega.{arith}
 use lib.ListN.{length, take, drop, length-take, length-drop}
@@ -9,8 +9,8 @@ use Rattle.lamps.proofs.Chain.{then, fits_past, finished_past}
 use Rattle.lamps.proofs.Rows.{lent, block_at, blocks_from, blocks_step, blocks_end, length_block}
 use Rattle.lamps.proofs.pictures.put_blocks.Goals as goal
 
-pub put_block-next-requires : goal.put_block-next-requires
-put_block-next-requires c =
+pub put_block-next-requires-clause-bytes_in_bounds : goal.put_block-next-requires-clause-bytes_in_bounds
+put_block-next-requires-clause-bytes_in_bounds c =
     let l = c.loop-row in
     let a = c.args in
     let end = c.least-end.result in
@@ -21,13 +21,11 @@ put_block-next-requires c =
     let upto = c.least-end.ensures in
     let within = c.loop-row-test.true in
     let names-part = lent 72 (9 * l.row) (9 * end) a.names.now (omega arith) in
-    let digits-part = lent 8 l.row end a.digits.now (omega arith) in
     let bytes-part = lent 8 l.row end a.bytes.now (omega arith) in
-    let short : length xs ≤ 8 = rw (length-take 8 (drop l.row a.bytes.now)) (omega arith) in
     let same : length ds ≡ length xs = rw (length-take 8 (drop l.row a.digits.now), length-take 8 (drop l.row a.bytes.now), length-drop l.row a.digits.now, length-drop l.row a.bytes.now, long.1) in
     let fits = fits_past (blocks_bytes a.names.now a.digits.now a.bytes.now) a.room.now a.at c.requires.bytes_in_bounds in
     let room = put_room l.invariant (block_bytes names ds xs) _ (blocks_step a.names.now a.digits.now a.bytes.now l.row within) in
-    rw (names-part, digits-part, bytes-part) (record { digits_len = (same, short); bytes_in_bounds = omega (arith, room, fits, l.invariant.same, length_block names ds xs same) })
+    rw (names-part, bytes-part) (omega (arith, room, fits, l.invariant.same, length_block names ds xs same))
 
 pub loop-row-preserved : goal.loop-row-preserved
 loop-row-preserved c =

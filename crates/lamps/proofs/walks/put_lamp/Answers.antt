@@ -3,23 +3,22 @@ use Prim.Native.Nat.{◌*◌, ◌≤◌}
 use mathlib.Core.Path.{◌≡◌, refl, sym, ap, ◌∙◌}
 use mathlib.Core.List.{[], ◌∷◌, ◌++◌}
 use native.Mathlib.Omega.{arith}
-use lib.ListN.{length, take, drop, length-take, length-drop}
+use lib.ListN.{length, drop, length-take, length-drop}
 use borrow.Author.Rules.{rules}
 use Rattle.digits.proofs.Copies.{over_full}
 use Rattle.digits.proofs.Puts.{put_none, put_turn, put_all}
 use Rattle.channels.specs.Channels.{record_length}
 use Rattle.lamps.specs.Walk.{row_name, alone, hex_bytes, walk_line}
 use Rattle.lamps.proofs.Chain.{then}
-use Rattle.lamps.proofs.Lit.{length_name, length_alone, alone_cells, length_record, length_line}
+use Rattle.lamps.proofs.Lit.{length_name, alone_cells, length_record, length_line}
 use Rattle.lamps.proofs.walks.put_lamp.Goals as goal
 
-pub put_cells-requires : goal.put_cells-requires
-put_cells-requires c =
+pub put_cells-requires-clause-bytes_len : goal.put_cells-requires-clause-bytes_len
+put_cells-requires-clause-bytes_len c =
     let row = c.args.row in
     let x = c.args.byte in
-    let lent : length (take record_length (alone row x)) ≡ record_length = length-take record_length (alone row x) ∙ rw (length_alone row x) in
     let out = c.after.new.room in
-    record { spaces_len = (sym lent, sym lent); bytes_len = rw (alone_cells row x) (length_record row x ∙ sym (length-take (3 * record_length) (drop 10 out) ∙ rw (length-drop 10 out) (search rules))) }
+    rw (alone_cells row x) (length_record row x ∙ sym (length-take (3 * record_length) (drop 10 out) ∙ rw (length-drop 10 out) (search rules)))
 
 pub returns : goal.returns
 unfolding walk_line
