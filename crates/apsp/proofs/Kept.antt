@@ -5,7 +5,7 @@ use mathlib.Core.List.{List}
 use mathlib.Core.Bool.{Bool, true, false, cond, not, ◌&&◌}
 use native.Mathlib.Omega.{arith}
 use lib.Dec.{ltb, leb}
-use lib.IntN.{ℤ, nat_abs, ◌+ℤ◌, ◌-ℤ◌}
+use lib.IntN.{nat_abs, ◌+ℤ◌, ◌-ℤ◌}
 use lib.ListN.{length, get_or}
 use Rattle.digits.specs.Digits.{low}
 use Rattle.digits.specs.Packed.{sign_of, is_minus, preferred, signed, below_zero, size_in, sign_in, signed_bytes}

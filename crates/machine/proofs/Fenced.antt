@@ -9,7 +9,7 @@ use lib.ListN.{length, get_or, set, length-set}
 use lib.Seq.{get_or-set_other}
 use Rattle.digits.specs.Refusal.{Check, first}
 use Rattle.digits.specs.Sizes.{sizes_wrong}
-use Rattle.digits.proofs.Refusals.{None, first_none}
+use Rattle.digits.proofs.Refusals.{first_none}
 use Rattle.digits.proofs.Table.{each_split}
 use Rattle.word.specs.Layout.{line_of, fields_of}
 use Rattle.word.specs.Word.{fault_checks}
@@ -20,10 +20,9 @@ use Rattle.storage.specs.declared.Access.{Access}
 use Rattle.storage.specs.declared.Fence.{Fence}
 use Rattle.storage.proofs.Inside.{inside_fetch, inside_put}
 use Rattle.machine.specs.Sources.{entered, sum_in}
-use Rattle.machine.specs.Cycle.{Outcome, stops, access_in, step_checks, next_word_checks, cycle_checks, word_at, after, ran_of, decided, cycle_in}
+use Rattle.machine.specs.Cycle.{stops, access_in, step_checks, next_word_checks, cycle_checks, word_at, after, ran_of, decided, cycle_in}
 use Rattle.machine.specs.Fenced.{SameIn, AlikeIn, ReadsInside, ChangesInside}
 use Rattle.machine.specs.declared.State.{State}
-use Rattle.machine.specs.declared.Cycled.{Cycled}
 use Rattle.machine.specs.declared.Cycled.TheVariants.{Ran}
 
 -- past all checks the address is in the fence

@@ -13,18 +13,15 @@ use Rattle.codes.specs.declared.Reading.TheVariants.{Basic}
 use Rattle.storage.specs.Storage.{bytes_in}
 use Rattle.storage.specs.declared.Fence.{Fence}
 use Rattle.machine.specs.Cycle.{Outcome, outcome, cycle_in}
-use Rattle.machine.specs.declared.State.{State}
 use Rattle.machine.specs.declared.Cycled.{Cycled}
 use Rattle.machine.specs.declared.Cycled.TheVariants as C
 use Rattle.machine.proofs.Promises.{sizes_stay}
 use Rattle.run.specs.Run.{Cycle, ended, run_in}
-use Rattle.run.specs.declared.Ending.{Ending}
-use Rattle.run.specs.declared.Ending.TheVariants.{Stopped}
 use Rattle.run.specs.declared.Finished.{Finished}
 use Rattle.run.proofs.Goes.{Machine, machine, Answers, Halts, Goes, here, next, lawful, standing}
 use Rattle.run.proofs.Promises.{run_goes, run_halts}
 use Rattle.decimal.specs.Program.{shipped}
-use Rattle.decimal.specs.Entry.{field_checks, start, bound, run_for, answered_at, from_run, SUMMED, entry_by, add_in}
+use Rattle.decimal.specs.Entry.{field_checks, bound, run_for, answered_at, SUMMED, entry_by, add_in}
 use Rattle.decimal.specs.Promise.{cycles_in}
 use Rattle.decimal.specs.declared.Added.{Added}
 use Rattle.decimal.specs.declared.Added.TheVariants as D

@@ -3,7 +3,7 @@ use Prim.Native.Nat.{ℕ, ◌+◌, ◌-◌, ◌<◌}
 use mathlib.Core.Path.{◌≡◌, refl, sym, ap, subst, ◌∙◌}
 use mathlib.Core.List.{List, [], ◌∷◌}
 use native.Mathlib.Omega.{arith}
-use lib.ListN.{length, get_or, take, drop, length-take, length-drop}
+use lib.ListN.{length, get_or, drop, length-take, length-drop}
 use lib.Seq.{get_or-take, get_or-drop, ext_get_or}
 use mathlib.Core.Bool.{false}
 use Rattle.digits.proofs.Truth.{true_not_false}
@@ -18,7 +18,7 @@ use Rattle.machine.specs.declared.Cycled.TheVariants as C
 use Rattle.machine.proofs.Promises.{Kept}
 use Rattle.session.specs.Turn.{turn_of, state_in}
 use Rattle.session.specs.Boards.{Own, own, Session, other, fence_of, own_of, with, Turned, turned_to, turned_of, after_turns}
-use Rattle.session.specs.Isolation.{Shown, shown_by, all_shown, turns_alone, Isolated, EndsAlone, IsolatedInTheEnd, TurnKeeps, is_ran, IdleKeeps, AnswerStays, NeitherChanges}
+use Rattle.session.specs.Isolation.{Shown, shown_by, all_shown, turns_alone, Isolated, IsolatedInTheEnd, TurnKeeps, is_ran, IdleKeeps, AnswerStays, NeitherChanges}
 use Rattle.session.specs.declared.Board.{Board}
 use Rattle.session.specs.declared.Board.TheVariants.{A, B}
 use Rattle.session.proofs.Turns.{turn_size, turn_keeps, turn_stops, turn_refuses, turn_spares, turn_alike}

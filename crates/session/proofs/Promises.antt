@@ -3,7 +3,6 @@ use Prim.Native.Nat.{ℕ, suc}
 use mathlib.Core.Path.{◌≡◌, sym, ◌∙◌}
 use mathlib.Core.List.{List}
 use mathlib.Core.Logic.{◌↔◌}
-use lib.ListN.{length}
 use Rattle.digits.specs.Refusal.{first, Given}
 use Rattle.digits.proofs.Refusals.{given_first, first_given}
 use Rattle.digits.proofs.Sole.{sole}

@@ -11,7 +11,6 @@ use Rattle.machine.specs.declared.State.{State}
 use Rattle.machine.specs.declared.Cycled.TheVariants as C
 use Rattle.run.specs.Run.{ended, run_in}
 use Rattle.run.specs.declared.Ending.TheVariants.{Stopped}
-use Rattle.run.specs.declared.Finished.{Finished}
 use Rattle.decimal.specs.Program.{shipped}
 use Rattle.decimal.specs.Entry.{field_checks, start, run_for, answered_at, SUMMED, entry_by}
 use Rattle.decimal.specs.Promise.{cycles_in, PromiseBy}

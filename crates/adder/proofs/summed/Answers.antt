@@ -1,6 +1,5 @@
 -- `adder::summed` meets its contract. Assumes nothing.
 use mathlib.Core.Path.{refl}
-use borrow.Author.Rules.{rules}
 use Rattle.adder.specs.Adder.{summed}
 use Rattle.adder.proofs.summed.Goals as goal
 

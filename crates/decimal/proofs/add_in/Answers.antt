@@ -6,7 +6,6 @@ use Rattle.run.specs.Run.{run_in}
 use Rattle.decimal.specs.Entry.{add_checks, start_with, bound, entry_by, SUMMED, add_in}
 use Rattle.decimal.proofs.Checks.{accepted}
 use Rattle.decimal.proofs.Kept.{promised}
-use borrow.Author.Rules.{rules}
 use Rattle.decimal.proofs.add_in.Goals as goal
 
 pub returns : goal.returns

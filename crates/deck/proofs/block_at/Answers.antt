@@ -1,5 +1,5 @@
 -- The part of the deck that the block is. Assumes nothing.
-use Rattle.std.proofs.Common.{◌*◌, ◌∙◌, arith, length-drop, length-take, rules}
+use Rattle.std.proofs.Common.{◌*◌, ◌∙◌}
 use native.Mathlib.Nat.{add-sub_cancel_left}
 use Rattle.deck.proofs.block_at.Goals as goal
 

@@ -1,6 +1,5 @@
 -- The sum so far with the groups that are left, against the whole. Assumes nothing.
-use Rattle.std.proofs.Common.{◌≡◌, ℕ, ◌+◌, ◌-◌, ◌%◌, ◌^◌, ◌<◌, ◌≤◌, length, take, drop, ap, ◌∙◌, zero-add, arith, drop_of_length-le, length-take, length-take-le, get_or-take, rules}
-use Rattle.digits.specs.Line.{total}
+use Rattle.std.proofs.Common.{◌≡◌, ℕ, ◌%◌, ◌^◌, length, take, ap, ◌∙◌, zero-add, arith, drop_of_length-le, length-take, length-take-le, get_or-take, rules}
 use Rattle.deck.specs.Deck.{check_of}
 use Rattle.deck.proofs.Walks.{sum_step}
 use Rattle.deck.proofs.block_check.Goals as goal

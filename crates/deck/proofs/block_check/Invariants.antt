@@ -1,8 +1,7 @@
 -- The sum so far with the groups that are left, against the whole. Assumes nothing.
-use Rattle.std.proofs.Common.{◌≡◌, ℕ, ◌+◌, ◌-◌, ◌%◌, ◌^◌, ◌<◌, ◌≤◌, length, take, drop, ap, ◌∙◌, zero-add, arith, drop_of_length-le, length-take, length-take-le, get_or-take, rules}
+use Rattle.std.proofs.Common.{◌≡◌, ◌+◌, ◌-◌, ◌%◌, ◌^◌, ◌<◌, ◌≤◌, take, drop}
 use Rattle.digits.specs.Line.{total}
 use Rattle.deck.specs.Deck.{check_of}
-use Rattle.deck.proofs.Walks.{sum_step}
 use Rattle.deck.proofs.block_check.Given as goal
 
 abbrev pub invariant-loop-place : goal.invariant-loop-place

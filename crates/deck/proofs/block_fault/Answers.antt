@@ -1,8 +1,8 @@
 -- 16, 17, 18, then the words. Assumes nothing.
-use Rattle.std.proofs.Common.{◌≡◌, ◌+◌, ◌-◌, ◌*◌, ◌≤◌, false, eqb, sym, ◌∙◌, arith, length-drop, length-take, rules}
+use Rattle.std.proofs.Common.{◌≡◌, ◌+◌, ◌-◌, false, sym, ◌∙◌}
 use native.Mathlib.Nat.{add-sub_cancel_left}
 use Rattle.deck.specs.Deck.{number_in, count_in, shape_wrong, check_of, check_in}
-use Rattle.deck.proofs.Blocks.{gives_16, gives_17, gives_18, gives_word, shaped, some}
+use Rattle.deck.proofs.Blocks.{gives_16, gives_17, gives_18, gives_word}
 use Rattle.deck.proofs.block_fault.Goals as goal
 
 pub returns-then-number_in-b : goal.returns-then-number_in-b

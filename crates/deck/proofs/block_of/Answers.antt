@@ -1,5 +1,5 @@
 -- The head, the words, zeros, and the check of those last. Assumes nothing.
-use Rattle.std.proofs.Common.{◌≡◌, ℕ, suc, ◌+◌, ◌-◌, ◌*◌, ◌^◌, List, [], ◌∷◌, ◌++◌, length, replicate, ap, ◌∙◌, arith, rules}
+use Rattle.std.proofs.Common.{◌≡◌, ℕ, suc, ◌+◌, ◌-◌, ◌*◌, ◌^◌, List, [], ◌∷◌, ◌++◌, length, replicate, ap, ◌∙◌, arith}
 use lib.Seq.{set_at}
 use Rattle.digits.proofs.Copies.{copied_all}
 use Rattle.deck.specs.Deck.{head_of, check_of, block_of}

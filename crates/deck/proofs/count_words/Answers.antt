@@ -1,6 +1,5 @@
 -- The words counted so far, and those of the blocks that are left. Assumes nothing.
-use Rattle.std.proofs.Common.{◌≡◌, ◌+◌, ◌-◌, ◌*◌, ◌/◌, ◌<◌, ◌≤◌, map, length, drop, refl, ap, ◌∙◌, zero-add, arith, length-append, drop_of_length-le, rules}
-use Rattle.digits.specs.Lists.{joined}
+use Rattle.std.proofs.Common.{◌≡◌, ◌/◌, ◌<◌, length, refl, ap, ◌∙◌, zero-add, arith, length-append, drop_of_length-le, rules}
 use Rattle.deck.specs.Deck.{blocks_of, block_at, count_in, words_in, words_of}
 use Rattle.deck.proofs.Groups.{length_groups, length_blocks}
 use Rattle.deck.proofs.Decks.{length_words, some_at, words_step}

@@ -1,8 +1,7 @@
 -- The checks of the blocks that are left, against those of all. Assumes nothing.
-use Rattle.std.proofs.Common.{◌≡◌, ◌+◌, ◌-◌, ◌/◌, ◌≤◌, [], length, get_or, drop, sym, refl, ◌∙◌, zero-add, arith, drop_of_length-le, rules}
+use Rattle.std.proofs.Common.{◌≡◌, ◌+◌, ◌/◌, [], length, get_or, sym, refl, ◌∙◌, zero-add, arith, drop_of_length-le, rules}
 use Rattle.digits.specs.Refusal.{first}
-use Rattle.digits.specs.Lists.{in_turn}
-use Rattle.deck.specs.Deck.{blocks_of, block_checks, deck_checks}
+use Rattle.deck.specs.Deck.{blocks_of, block_checks}
 use Rattle.deck.proofs.Turns.{turn_step, turn_stop}
 use Rattle.deck.proofs.Checks.{block_numbered}
 use Rattle.deck.proofs.Groups.{length_blocks, blocks_at}

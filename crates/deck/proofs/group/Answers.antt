@@ -1,7 +1,6 @@
 -- The number of the bytes read so far. Assumes nothing.
-use Rattle.std.proofs.Common.{◌≡◌, ℕ, ◌+◌, ◌-◌, ◌*◌, ◌^◌, ◌<◌, ◌≤◌, length, get_or, take, sym, refl, ap, ◌∙◌, le_trans, pow-suc, add-one, arith, take_all, take-suc, rules}
+use Rattle.std.proofs.Common.{ℕ, ◌+◌, ◌*◌, ◌^◌, ◌<◌, ◌≤◌, get_or, take, sym, le_trans, pow-suc, add-one, arith, take-suc, rules}
 use native.Mathlib.Nat.{pow-le-pow_right}
-use Rattle.digits.specs.Number.{number_of}
 use Rattle.digits.proofs.Number.{number_snoc}
 use Rattle.deck.proofs.group.Goals as goal
 

@@ -1,8 +1,6 @@
 -- The number of the bytes read so far. Assumes nothing.
-use Rattle.std.proofs.Common.{◌≡◌, ℕ, ◌+◌, ◌-◌, ◌*◌, ◌^◌, ◌<◌, ◌≤◌, length, get_or, take, sym, refl, ap, ◌∙◌, le_trans, pow-suc, add-one, arith, take_all, take-suc, rules}
-use native.Mathlib.Nat.{pow-le-pow_right}
+use Rattle.std.proofs.Common.{◌≡◌, ◌-◌, ◌^◌, ◌<◌, ◌≤◌, length, take}
 use Rattle.digits.specs.Number.{number_of}
-use Rattle.digits.proofs.Number.{number_snoc}
 use Rattle.deck.proofs.group.Given as goal
 
 abbrev pub invariant-loop-i : goal.invariant-loop-i

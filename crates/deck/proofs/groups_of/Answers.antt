@@ -1,5 +1,5 @@
 -- One group a turn. Assumes nothing.
-use Rattle.std.proofs.Common.{◌≡◌, ◌-◌, ◌*◌, ◌≤◌, ◌++◌, length, get_or, take, drop, sym, ◌∙◌, append-nil, arith, length-drop, length-set, length-take, take_all, rules}
+use Rattle.std.proofs.Common.{◌≡◌, ◌*◌, get_or, sym, ◌∙◌, append-nil, arith, length-set, take_all, rules}
 use native.Mathlib.Nat.{add-sub_cancel_left}
 use Rattle.deck.specs.Deck.{groups_of}
 use Rattle.digits.proofs.Copies.{copy_step}

@@ -1,9 +1,6 @@
 -- One group a turn. Assumes nothing.
-use Rattle.std.proofs.Common.{◌≡◌, ◌-◌, ◌*◌, ◌≤◌, ◌++◌, length, get_or, take, drop, sym, ◌∙◌, append-nil, arith, length-drop, length-set, length-take, take_all, rules}
-use native.Mathlib.Nat.{add-sub_cancel_left}
+use Rattle.std.proofs.Common.{◌≡◌, ◌-◌, ◌≤◌, ◌++◌, length, take, drop}
 use Rattle.deck.specs.Deck.{groups_of}
-use Rattle.digits.proofs.Copies.{copy_step}
-use Rattle.deck.proofs.Groups.{length_groups, groups_at}
 use Rattle.deck.proofs.groups_of.Given as goal
 
 abbrev pub invariant-loop-i : goal.invariant-loop-i

@@ -1,8 +1,7 @@
 -- One block a turn: the front that is put, and the words of the blocks that are left. Assumes nothing.
-use Rattle.std.proofs.Common.{◌≡◌, ◌+◌, ◌-◌, ◌/◌, ◌<◌, ◌≤◌, ◌++◌, map, length, take, drop, refl, arith, drop_of_length-le, rules}
-use Rattle.digits.specs.Lists.{joined}
+use Rattle.std.proofs.Common.{◌≡◌, ◌+◌, ◌/◌, ◌<◌, ◌++◌, length, take, drop, refl, arith, drop_of_length-le, rules}
 use Rattle.deck.specs.Deck.{blocks_of, block_at, count_in, words_in, words_of}
-use Rattle.digits.proofs.Puts.{Put, put_none, put_room, put_turn, put_all}
+use Rattle.digits.proofs.Puts.{put_none, put_room, put_turn, put_all}
 use Rattle.deck.proofs.Groups.{length_groups, length_blocks}
 use Rattle.deck.proofs.Decks.{length_words, some_at, words_step}
 use Rattle.deck.proofs.put_all.Goals as goal

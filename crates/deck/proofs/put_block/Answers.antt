@@ -1,11 +1,9 @@
 -- One group a turn: the front that is put, and what is left of the groups. Assumes nothing.
-use Rattle.std.proofs.Common.{◌≡◌, ◌+◌, ◌-◌, ◌*◌, ◌≤◌, map, length, get_or, take, drop, refl, ◌∙◌, arith, length-drop, drop_of_length-le, length-take, rules}
+use Rattle.std.proofs.Common.{◌≡◌, ◌+◌, ◌-◌, ◌*◌, length, get_or, take, drop, refl, ◌∙◌, arith, length-drop, length-take, rules}
 use native.Mathlib.Nat.{add-sub_cancel_left}
-use Rattle.digits.specs.Lists.{joined}
 use Rattle.digits.specs.Number.{digits_of}
 use Rattle.deck.specs.Deck.{bytes_of}
-use Rattle.digits.proofs.Copies.{over_full}
-use Rattle.digits.proofs.Puts.{Put, put_none, put_turn, put_all}
+use Rattle.digits.proofs.Puts.{put_none, put_turn}
 use Rattle.deck.proofs.Groups.{length_bytes}
 use Rattle.digits.proofs.Lists.{joined_step}
 use Rattle.deck.proofs.put_block.Goals as goal

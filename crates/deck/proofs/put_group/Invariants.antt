@@ -1,9 +1,6 @@
 -- From the low end: the bytes still to put, before those that are put. Assumes nothing.
-use Rattle.std.proofs.Common.{◌≡◌, ◌-◌, ◌/◌, ◌%◌, ◌≤◌, ◌++◌, length, drop, refl, ◌∙◌, append-nil, arith, length-set, rules}
-use lib.Seq.{drop-length}
+use Rattle.std.proofs.Common.{◌≡◌, ◌≤◌, ◌++◌, length, drop}
 use Rattle.digits.specs.Number.{digits_of}
-use Rattle.digits.proofs.Number.{digits_last}
-use Rattle.digits.proofs.Puts.{put_before}
 use Rattle.deck.proofs.put_group.Given as goal
 
 abbrev pub invariant-loop-i : goal.invariant-loop-i

@@ -1,8 +1,8 @@
 -- 15, then the blocks, then 19, then the words. Assumes nothing.
-use Rattle.std.proofs.Common.{◌≡◌, false, length, sym, ◌∙◌, arith, rules}
+use Rattle.std.proofs.Common.{◌≡◌, false, length, sym, ◌∙◌, arith}
 use Rattle.digits.specs.Refusal.{first}
 use Rattle.deck.specs.Deck.{length_wrong, deck_checks}
-use Rattle.deck.proofs.Answers.{sized, read_block, read_19, read_0, refused, accepted}
+use Rattle.deck.proofs.Answers.{read_block, read_19, read_0, refused, accepted}
 use Rattle.deck.proofs.read.Goals as goal
 
 pub returns-then-length_wrong : goal.returns-then-length_wrong

@@ -1,7 +1,5 @@
 -- The groups that are left to look at, against all the unused ones. Assumes nothing.
-use Rattle.std.proofs.Common.{◌≡◌, ℕ, ◌+◌, ◌-◌, not, length, take, drop, sym, ap, ◌∙◌, arith, drop_of_length-le, length-take, length-take-le, get_or-take, rules}
-use Rattle.digits.specs.Lists.{all_zero}
-use Rattle.deck.specs.Deck.{unused_in}
+use Rattle.std.proofs.Common.{◌≡◌, not, length, take, sym, ap, ◌∙◌, arith, drop_of_length-le, length-take, length-take-le, get_or-take}
 use Rattle.deck.proofs.Walks.{zero_step, zero_stop}
 use Rattle.deck.proofs.unused_wrong.Goals as goal
 

@@ -1,8 +1,7 @@
 -- The groups that are left to look at, against all the unused ones. Assumes nothing.
-use Rattle.std.proofs.Common.{◌≡◌, ℕ, ◌+◌, ◌-◌, not, length, take, drop, sym, ap, ◌∙◌, arith, drop_of_length-le, length-take, length-take-le, get_or-take, rules}
+use Rattle.std.proofs.Common.{◌≡◌, ◌-◌, take, drop}
 use Rattle.digits.specs.Lists.{all_zero}
 use Rattle.deck.specs.Deck.{unused_in}
-use Rattle.deck.proofs.Walks.{zero_step, zero_stop}
 use Rattle.deck.proofs.unused_wrong.Given as goal
 
 abbrev pub invariant-loop-unused : goal.invariant-loop-unused

@@ -1,7 +1,5 @@
 -- The checks of the words that are left, against those of all. Assumes nothing.
-use Rattle.std.proofs.Common.{◌≡◌, ◌+◌, ◌-◌, ◌≤◌, length, drop, sym, ◌∙◌, add-zero, arith, drop_of_length-le, rules}
-use Rattle.digits.specs.Refusal.{first}
-use Rattle.digits.specs.Lists.{in_turn}
+use Rattle.std.proofs.Common.{sym, ◌∙◌, arith, rules}
 use Rattle.deck.specs.Deck.{word_checks}
 use Rattle.deck.proofs.Turns.{turn_step, turn_stop}
 use Rattle.deck.proofs.Checks.{word_numbered, fault_is}

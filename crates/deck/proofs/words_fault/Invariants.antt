@@ -1,10 +1,8 @@
 -- The checks of the words that are left, against those of all. Assumes nothing.
-use Rattle.std.proofs.Common.{◌≡◌, ◌+◌, ◌-◌, ◌≤◌, length, drop, sym, ◌∙◌, add-zero, arith, drop_of_length-le, rules}
+use Rattle.std.proofs.Common.{◌≡◌, ◌+◌, ◌-◌, ◌≤◌, length, drop}
 use Rattle.digits.specs.Refusal.{first}
 use Rattle.digits.specs.Lists.{in_turn}
 use Rattle.deck.specs.Deck.{word_checks}
-use Rattle.deck.proofs.Turns.{turn_step, turn_stop}
-use Rattle.deck.proofs.Checks.{word_numbered, fault_is}
 use Rattle.deck.proofs.words_fault.Given as goal
 
 abbrev pub invariant-loop-i : goal.invariant-loop-i

@@ -1,9 +1,9 @@
 -- 21, then the words, then 19, then the deck. Assumes nothing.
-use Rattle.std.proofs.Common.{◌≡◌, length, sym, ◌∙◌, arith, rules}
+use Rattle.std.proofs.Common.{◌≡◌, length, sym, ◌∙◌, arith}
 use Rattle.digits.specs.Refusal.{first}
 use Rattle.digits.specs.Lists.{in_turn}
 use Rattle.deck.specs.Deck.{words_wrong, word_checks, write_checks}
-use Rattle.deck.proofs.Answers.{few, past, byte_count, write_refused, write_accepted, wrote}
+use Rattle.deck.proofs.Answers.{past, byte_count, write_refused, write_accepted}
 use Rattle.deck.proofs.Checks.{words_numbered}
 use Rattle.deck.proofs.write.Goals as goal
 

@@ -1,10 +1,7 @@
 -- The digits counted, and those of what is left. Assumes nothing.
-use Prim.Native.Nat.{◌+◌, ◌-◌}
-use mathlib.Core.Path.{refl}
+use Prim.Native.Nat.{◌-◌}
 use native.Mathlib.Omega.{arith}
-use borrow.Author.Rules.{rules}
-use Rattle.figures.specs.Figures.{digit_count}
-use Rattle.figures.proofs.Counts.{Counted, count_one, count_next}
+use Rattle.figures.proofs.Counts.{count_one, count_next}
 use Rattle.figures.proofs.digit_count.Goals as goal
 
 pub loop-rest-preserved : goal.loop-rest-preserved

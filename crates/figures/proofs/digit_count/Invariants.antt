@@ -1,10 +1,7 @@
 -- The digits counted, and those of what is left. Assumes nothing.
-use Prim.Native.Nat.{◌+◌, ◌-◌}
-use mathlib.Core.Path.{refl}
-use native.Mathlib.Omega.{arith}
-use borrow.Author.Rules.{rules}
+use Prim.Native.Nat.{◌+◌}
 use Rattle.figures.specs.Figures.{digit_count}
-use Rattle.figures.proofs.Counts.{Counted, count_one, count_next}
+use Rattle.figures.proofs.Counts.{Counted}
 use Rattle.figures.proofs.digit_count.Given as goal
 
 abbrev pub invariant-loop-rest : goal.invariant-loop-rest

@@ -1,13 +1,9 @@
 -- From the low end: the digits still to put, before those that are put. Assumes nothing.
-use Prim.Native.Nat.{ℕ, zero, suc, ◌+◌, ◌-◌, ◌/◌, ◌%◌, ◌<◌, ◌≤◌}
-use mathlib.Core.Path.{◌≡◌, refl, ◌∙◌}
-use mathlib.Core.List.{[], ◌∷◌, ◌++◌, map, map-append, append-nil}
-use native.Mathlib.Omega.{arith}
-use lib.ListN.{length, drop, length-set}
-use lib.Seq.{drop-length}
-use borrow.Author.Rules.{rules}
+use Prim.Native.Nat.{◌≤◌}
+use mathlib.Core.Path.{◌≡◌}
+use mathlib.Core.List.{◌++◌, map}
+use lib.ListN.{length, drop}
 use Rattle.digits.specs.Tens.{last_digits}
-use Rattle.digits.proofs.Puts.{put_before}
 use Rattle.figures.specs.Figures.{figure}
 use Rattle.figures.proofs.put_figures.Given as goal
 

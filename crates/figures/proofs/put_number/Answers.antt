@@ -6,11 +6,10 @@ use mathlib.Core.List.{List, ◌∷◌, ◌++◌, map}
 use native.Mathlib.Omega.{arith}
 use lib.IntN.{pos, nat_abs}
 use lib.Signed.{lt_z}
-use lib.ListN.{length, take, drop, replicate, length-append, length-map}
+use lib.ListN.{length, take, drop, replicate, length-map}
 use lib.Seq.{take_at, length-take-le}
 use mir.Syntax.{w64}
 use mir.Val.{to_z, of_z}
-use borrow.Author.Rules.{rules}
 use Rattle.digits.specs.Bits.{one}
 use Rattle.digits.specs.Tens.{last_digits}
 use Rattle.digits.specs.Packed.{below_zero}
@@ -44,7 +43,7 @@ returns c =
     let put : c.put_figures.new.out ≡ map figure (last_digits count size) = rw (length_room count c.digit_count-end.ensures.1) at c.put_figures.ensures in
     let is_long : length c.put_figures.new.out ≡ count = ap length put ∙ length-map (last_digits count size) figure ∙ length_last count size in
     let digits : c.put_figures.new.out ≡ figures (nat_abs number) =
-      put ∙ ap (λ (k : ℕ). map figure (last_digits k size)) c.digit_count-end.ensures.0 ∙ ap figures (rw same at c.size-size.ensures) in
+    put ∙ ap (λ (k : ℕ). map figure (last_digits k size)) c.digit_count-end.ensures.0 ∙ ap figures (rw same at c.size-size.ensures) in
     let minus : lt_z (to_z w64 (of_z w64 number)) (pos 0) ≡ below_zero number = rw same (below_zero_lem number) in
     let text = shown (below_zero number) c.put_figures.new.out (past count) count is_long ∙ ap (λ (ds : List ℕ). minus_before (below_zero number) ++ ds) digits in
     rw (c.one.ensures.0 ∙ ap one minus, text) at c.put.ensures

@@ -1,5 +1,4 @@
 -- A line of spaces, with the digits of both numbers and the line feed put in. Assumes nothing.
-use borrow.Author.Rules.{rules}
 use Rattle.listing.specs.Listing.{text_line}
 use Rattle.listing.proofs.line.Goals as goal
 

@@ -3,7 +3,6 @@ use Prim.Native.Nat.{◌*◌, ◌<◌, ◌≤◌}
 use mathlib.Core.Path.{◌∙◌}
 use native.Mathlib.Omega.{arith}
 use lib.ListN.{length}
-use borrow.Author.Rules.{rules}
 use Rattle.listing.specs.Listing.{lines_of}
 use Rattle.text.proofs.Texts.{too_small, fits}
 use Rattle.listing.proofs.Texts.{length_lines}

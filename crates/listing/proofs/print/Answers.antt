@@ -4,7 +4,6 @@ use mathlib.Core.Path.{◌≡◌, sym, ◌∙◌}
 use mathlib.Core.List.{List}
 use native.Mathlib.Omega.{arith}
 use lib.ListN.{take, replicate, length-replicate}
-use borrow.Author.Rules.{rules}
 use Rattle.listing.specs.Listing.{lines_of, text_of}
 use Rattle.listing.proofs.Texts.{text_of_words, text_of_refusal}
 use Rattle.deck.specs.Deck.{read_of, words_after}

@@ -1,7 +1,6 @@
 -- Three digits and the line feed, from the first digit that is printed. Assumes nothing.
 use Prim.Native.Nat.{◌+◌, ◌/◌, ◌%◌}
 use lib.Dec.{ltb}
-use borrow.Author.Rules.{rules}
 use Rattle.listing.specs.Listing.{refusal_of}
 use Rattle.listing.proofs.Texts.{tail_is}
 use Rattle.listing.proofs.refusal.Goals as goal

@@ -1,13 +1,11 @@
 -- 1, 2, 3 to 9, and then the fields. Assumes nothing.
 use Prim.Native.Nat.{ℕ}
-use lib.ListN.{length}
 use mathlib.Core.Path.{sym, ap, ◌∙◌}
 use borrow.Author.Tests.{le-leb, lt-leb}
 use Rattle.word.specs.declared.Fields.{Fields}
 use Rattle.machine.specs.Cycle.{outcome, step_of}
 use Rattle.machine.specs.declared.Cycled.TheVariants.{Refused}
-use Rattle.machine.proofs.Cycles.{on_1, on_2, on_fault, on_fields, fields_small, local_fits}
-use borrow.Author.Rules.{rules}
+use Rattle.machine.proofs.Cycles.{on_1, on_2, on_fault, on_fields}
 use Rattle.machine.proofs.cycle_in.Goals as goal
 
 pub returns-then-sizes_wrong : goal.returns-then-sizes_wrong

@@ -4,7 +4,6 @@ use mathlib.Core.Path.{sym, ◌∙◌}
 use Rattle.word.proofs.Trips.{apart_fields}
 use Rattle.machine.specs.Cycle.{next_sum_of}
 use Rattle.machine.proofs.Cycles.{fields_small}
-use borrow.Author.Rules.{rules}
 use Rattle.machine.proofs.next_sum.Goals as goal
 
 pub returns-then-store-at : goal.returns-then-store-at

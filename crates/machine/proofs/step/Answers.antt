@@ -1,17 +1,13 @@
 -- Stop, 10, 11, and what runs. Assumes nothing.
 use mathlib.Core.Path.{◌≡◌, sym, ap, ◌∙◌}
 use mathlib.Core.Bool.{false}
-use borrow.Author.Tests.{eq-eqb, ne_eqb}
-use Rattle.storage.proofs.Inside.{inside_fetch, inside_put}
-use Rattle.machine.proofs.Cycles.{on_stop, on_10, on_11, on_ran, ran_is}
+use borrow.Author.Tests.{ne_eqb}
+use Rattle.machine.proofs.Cycles.{on_ran, ran_is}
 use lib.ListN.{length}
-use Rattle.machine.specs.Cycle.{outcome, stops, seen_of, access_in}
+use Rattle.machine.specs.Cycle.{stops, seen_of, access_in}
 use Rattle.storage.specs.Storage.{access_of, outside}
 use Rattle.codes.specs.Modelled.{unmodelled_of}
 use Rattle.machine.specs.declared.State.{State}
-use Rattle.machine.specs.declared.Cycled.TheVariants.{Refused}
-use Prim.Native.Nat.{ℕ}
-use borrow.Author.Rules.{rules}
 use Rattle.machine.proofs.step.Goals as goal
 
 pub returns-else-is_outside : goal.returns-else-is_outside

@@ -1,6 +1,5 @@
 -- 19, then the cycle. Assumes nothing.
 use mathlib.Core.Path.{◌∙◌}
-use borrow.Author.Rules.{rules}
 use Rattle.machine.specs.Cycle.{cycle_of}
 use Rattle.panel.specs.Answers.{reading_of}
 use Rattle.panel.proofs.Calls.{call_short, call_is}

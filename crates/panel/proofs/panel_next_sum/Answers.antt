@@ -1,10 +1,7 @@
 -- 19, then the work, or 1. Assumes nothing.
 use mathlib.Core.Path.{ap, ◌∙◌}
-use lib.ListN.{length}
-use Rattle.channels.specs.Channels.{record_length}
 use Rattle.panel.specs.Answers.{answered}
-use Rattle.panel.proofs.Calls.{both_lent, next_short, next_is}
-use borrow.Author.Rules.{rules}
+use Rattle.panel.proofs.Calls.{next_short, next_is}
 use Rattle.panel.proofs.panel_next_sum.Goals as goal
 
 pub returns-then-state-work : goal.returns-then-state-work

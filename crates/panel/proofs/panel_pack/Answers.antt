@@ -3,7 +3,6 @@ use mathlib.Core.Path.{ap, ◌∙◌}
 use lib.ListN.{length}
 use Rattle.panel.specs.Answers.{answered}
 use Rattle.panel.proofs.Calls.{pack_short, both_lent, front, pack_is}
-use borrow.Author.Rules.{rules}
 use Rattle.panel.proofs.panel_pack.Goals as goal
 
 pub returns-then-fields-word : goal.returns-then-fields-word

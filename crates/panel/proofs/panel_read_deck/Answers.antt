@@ -3,7 +3,6 @@ use mathlib.Core.Path.{sym, ap, ap₂, ◌∙◌}
 use native.Mathlib.Omega.{arith}
 use Rattle.panel.specs.Answers.{answered, read_number, read_deck_call}
 use Rattle.panel.proofs.Decks.{read_few}
-use borrow.Author.Rules.{rules}
 use Rattle.panel.proofs.panel_read_deck.Goals as goal
 
 pub overflow_cast-result : goal.overflow_cast-result

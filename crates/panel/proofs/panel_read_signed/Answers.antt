@@ -1,6 +1,5 @@
 -- The number or its refusal, then 19. Assumes nothing.
 use mathlib.Core.Path.{sym, ◌∙◌}
-use borrow.Author.Rules.{rules}
 use Rattle.panel.proofs.Calls.{signed_short, signed_is, signed_refused}
 use Rattle.panel.proofs.panel_read_signed.Goals as goal
 

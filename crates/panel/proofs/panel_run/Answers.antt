@@ -1,7 +1,5 @@
 -- 19, then the run. Assumes nothing.
-use Rattle.panel.specs.Answers.{counted}
 use Rattle.panel.proofs.Calls.{run_short, run_any}
-use borrow.Author.Rules.{rules}
 use Rattle.panel.proofs.panel_run.Goals as goal
 
 pub returns-then-state-lt-STATE : goal.returns-then-state-lt-STATE

@@ -2,7 +2,6 @@
 use Prim.Native.Nat.{ℕ}
 use mathlib.Core.Path.{ap, ◌∙◌}
 use mathlib.Core.List.{List}
-use borrow.Author.Rules.{rules}
 use Rattle.panel.specs.Answers.{handed, shipped_signed_call}
 use Rattle.panel.proofs.panel_shipped_signed.Goals as goal
 

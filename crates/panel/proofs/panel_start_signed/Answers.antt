@@ -1,6 +1,5 @@
 -- The record of the entry's own start. Assumes nothing.
 use mathlib.Core.Path.{ap, ◌∙◌}
-use borrow.Author.Rules.{rules}
 use Rattle.machine.specs.declared.State.{State}
 use Rattle.panel.specs.Answers.{started, start_signed_call}
 use Rattle.panel.proofs.panel_start_signed.Goals as goal

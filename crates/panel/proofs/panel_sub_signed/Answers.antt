@@ -1,7 +1,6 @@
 -- The entry of SP. Assumes nothing.
 use Rattle.panel.specs.Answers.{sub_signed_call}
 use Rattle.panel.proofs.Calls.{added}
-use borrow.Author.Rules.{rules}
 use Rattle.panel.proofs.panel_sub_signed.Goals as goal
 
 pub returns : goal.returns

@@ -2,7 +2,6 @@
 use mathlib.Core.Path.{ap, ◌∙◌}
 use Rattle.panel.specs.Answers.{answered}
 use Rattle.panel.proofs.Calls.{apart_short, apart_is}
-use borrow.Author.Rules.{rules}
 use Rattle.panel.proofs.panel_take_apart.Goals as goal
 
 pub returns-then-fields-lt-FIELDS : goal.returns-then-fields-lt-FIELDS

@@ -2,7 +2,6 @@
 use mathlib.Core.Path.{ap, ◌∙◌}
 use Rattle.panel.specs.Answers.{answered}
 use Rattle.panel.proofs.Calls.{trap_short, trap_is}
-use borrow.Author.Rules.{rules}
 use Rattle.panel.proofs.panel_trap.Goals as goal
 
 pub returns-then-state-lt-STATE : goal.returns-then-state-lt-STATE

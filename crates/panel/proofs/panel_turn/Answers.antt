@@ -1,7 +1,5 @@
 -- 19, then the turn. Assumes nothing.
 use mathlib.Core.Path.{◌∙◌}
-use borrow.Author.Rules.{rules}
-use Rattle.storage.specs.declared.Fence.{Fence}
 use Rattle.session.specs.Turn.{turn_of}
 use Rattle.panel.specs.Answers.{reading_of}
 use Rattle.panel.proofs.Calls.{call_short, call_is}

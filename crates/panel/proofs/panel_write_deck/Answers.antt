@@ -3,7 +3,6 @@ use mathlib.Core.Path.{sym, ap, ap₂, ◌∙◌}
 use native.Mathlib.Omega.{arith}
 use Rattle.panel.specs.Answers.{answered, write_number, write_deck_call}
 use Rattle.panel.proofs.Decks.{write_few}
-use borrow.Author.Rules.{rules}
 use Rattle.panel.proofs.panel_write_deck.Goals as goal
 
 pub overflow_cast-result : goal.overflow_cast-result

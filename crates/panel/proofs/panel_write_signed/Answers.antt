@@ -2,7 +2,6 @@
 use mathlib.Core.Path.{◌≡◌, sym, ap, ap₂, ◌∙◌}
 use Rattle.signed.specs.Signed.{write_signed, field_after}
 use Rattle.signed.proofs.Whole.{reads}
-use borrow.Author.Rules.{rules}
 use Rattle.panel.specs.Answers.{answered, wrote_number, write_signed_call}
 use Rattle.panel.proofs.panel_write_signed.Goals as goal
 

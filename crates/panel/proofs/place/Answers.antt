@@ -1,10 +1,6 @@
 -- The bytes of WX, FWX and the latch, from the whole record. Assumes nothing.
-use Prim.Native.Nat.{ℕ, ◌<◌}
-use native.Mathlib.Nat.{lt_of_lt_of_le}
-use native.Mathlib.Omega.{arith}
-use lib.ListN.{length, get_or, set}
-use Rattle.channels.specs.Channels.{record_length, saved}
-use borrow.Author.Rules.{rules}
+use lib.ListN.{get_or, set}
+use Rattle.channels.specs.Channels.{saved}
 use Rattle.panel.proofs.place.Goals as goal
 
 pub returns : goal.returns

@@ -1,5 +1,4 @@
 -- By the answer. Assumes nothing.
-use borrow.Author.Rules.{rules}
 use Rattle.results.specs.Results.{result_of}
 use Rattle.results.proofs.result.Goals as goal
 

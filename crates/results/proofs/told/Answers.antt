@@ -5,7 +5,6 @@ use mathlib.Core.List.{[], ◌++◌, append-nil}
 use native.Mathlib.Nat.{add-sub_cancel_left}
 use native.Mathlib.Omega.{arith}
 use lib.ListN.{length, length-take, length-drop}
-use borrow.Author.Rules.{rules}
 use Rattle.digits.proofs.Copies.{copied_all}
 use Rattle.digits.proofs.Puts.{Put, put_turn, put_copy, put_all, put_size}
 use Rattle.text.specs.Ascii.{ascii}

@@ -1,12 +1,7 @@
 -- What is left of the run stands for the whole. Assumes nothing.
-use Prim.Native.Nat.{◌≤◌, ◌-◌}
-use mathlib.Core.Path.{◌≡◌, refl, sym, ap, ◌∙◌}
-use native.Mathlib.Nat.{sub-zero}
+use mathlib.Core.Path.{sym, ap, ◌∙◌}
 use native.Mathlib.Omega.{arith}
-use borrow.Author.Rules.{rules}
-use lib.ListN.{length}
-use Rattle.machine.specs.Cycle.{outcome, cycle_in}
-use Rattle.run.specs.Run.{cycles_of}
+use Rattle.machine.specs.Cycle.{outcome}
 use Rattle.run.specs.declared.Finished.{Finished}
 use Rattle.run.proofs.Runs.{on_spent, on_answer}
 use Rattle.run.proofs.cycles.Goals as goal

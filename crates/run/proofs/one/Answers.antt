@@ -1,6 +1,5 @@
 -- A run of one, as a cycle. Assumes nothing.
 use mathlib.Core.Path.{ap, ◌∙◌}
-use borrow.Author.Rules.{rules}
 use Rattle.machine.specs.Cycle.{outcome}
 use Rattle.machine.specs.declared.Cycled.{Cycled}
 use Rattle.run.proofs.Goes.{machine, lawful}

@@ -1,6 +1,5 @@
 -- 1, 22, then the cycles. Assumes nothing.
 use mathlib.Core.Path.{ap, ◌∙◌}
-use borrow.Author.Rules.{rules}
 use Rattle.machine.specs.Cycle.{outcome, cycle_in}
 use Rattle.run.specs.declared.Finished.{Finished}
 use Rattle.run.proofs.Runs.{refused_at_once, begins}

@@ -1,6 +1,5 @@
 -- 1, 32, and then the entry in the fence. Assumes nothing.
 use mathlib.Core.Path.{sym, ◌∙◌}
-use borrow.Author.Rules.{rules}
 use Rattle.session.proofs.Adding.{on_1, on_32, on_right, with_promise}
 use Rattle.session.proofs.add.Goals as goal
 
@@ -18,7 +17,7 @@ returns-then-fence_wrong c =
     let m = a.main.now in
     let l = a.local.now in
     let both = with_promise a.fence m l a.first a.second a.length a.carry _ _ _
-      (on_32 a.fence m l a.first a.second a.length a.carry (sym c.storage_wrong.ensures ∙ c.if-storage_wrong.false) (sym c.fence_wrong.ensures ∙ c.if-fence_wrong.true)) in
+    (on_32 a.fence m l a.first a.second a.length a.carry (sym c.storage_wrong.ensures ∙ c.if-storage_wrong.false) (sym c.fence_wrong.ensures ∙ c.if-fence_wrong.true)) in
     record { run = both.0; promise = both.1 }
 
 pub returns : goal.returns
@@ -27,5 +26,5 @@ returns c =
     let m = a.main.now in
     let l = a.local.now in
     let both = with_promise a.fence m l a.first a.second a.length a.carry _ _ _
-      (c.add_in.ensures.run ∙ on_right a.fence m l a.first a.second a.length a.carry (sym c.fence_wrong.ensures ∙ c.if-fence_wrong.false)) in
+    (c.add_in.ensures.run ∙ on_right a.fence m l a.first a.second a.length a.carry (sym c.fence_wrong.ensures ∙ c.if-fence_wrong.false)) in
     record { run = both.0; promise = both.1 }

@@ -1,6 +1,5 @@
 -- 1, 32, and then the cycle in the board's own fence. Assumes nothing.
 use mathlib.Core.Path.{sym, ◌∙◌}
-use borrow.Author.Rules.{rules}
 use Rattle.session.proofs.Turns.{turn_is, turn_1, turn_32}
 use Rattle.session.proofs.turn.Goals as goal
 

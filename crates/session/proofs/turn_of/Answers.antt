@@ -1,5 +1,4 @@
 -- The turn of the board that is named. Assumes nothing.
-use borrow.Author.Rules.{rules}
 use Rattle.session.specs.Boards.{own, session}
 use Rattle.session.specs.declared.Board.TheVariants.{A, B}
 use Rattle.session.proofs.Isolation.{named}

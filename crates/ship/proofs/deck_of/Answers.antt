@@ -1,6 +1,5 @@
 -- The writer fills the block. Assumes nothing.
 use mathlib.Core.Path.{◌∙◌, refl}
-use borrow.Author.Rules.{rules}
 use Rattle.ship.proofs.Shipped.{written}
 use Rattle.ship.proofs.deck_of.Goals as goal
 

@@ -1,6 +1,5 @@
 -- The shipped words in front, and two numerals that packing gives. Assumes nothing.
 use mathlib.Core.Path.{◌∙◌}
-use borrow.Author.Rules.{rules}
 use lib.Count.{ones}
 use lib.ListN.{replicate, set}
 use Rattle.digits.specs.Lent.{copied}

@@ -1,7 +1,5 @@
 -- The program's own words. Assumes nothing.
-use mathlib.Core.Path.{sym, ap, subst, ◌∙◌}
-use borrow.Author.Rules.{rules}
-use Rattle.deck.specs.Deck.{deck_of}
+use mathlib.Core.Path.{sym, subst}
 use Rattle.ship.specs.Block.{OneBlock}
 use Rattle.ship.proofs.Shipped.{trap_fits}
 use Rattle.ship.proofs.trap_deck.Goals as goal

@@ -1,7 +1,6 @@
 -- 29, 30, and what a trap changes. Assumes nothing.
 use mathlib.Core.Path.{sym}
 use mathlib.Core.List.{[], ◌∷◌}
-use borrow.Author.Rules.{rules}
 use borrow.Author.Tests.{lt-ltb, le-ltb}
 use Rattle.digits.specs.Refusal.{first}
 use Rattle.word.specs.Word.{far_address}

@@ -1,7 +1,6 @@
 -- The digit, or 0 before the first. Assumes nothing.
 use mathlib.Core.Path.{refl}
 use native.Mathlib.Omega.{arith}
-use borrow.Author.Rules.{rules}
 use borrow.Author.Tests.{lt-ltb, le-ltb}
 use Rattle.arguments.specs.Arguments.{digit_from_last}
 use Rattle.arguments.proofs.fields.digit_from_last.Goals as goal

@@ -1,13 +1,8 @@
 -- From the last byte: what is laid stands at the right end. Assumes nothing.
-use Prim.Native.Nat.{suc, ◌+◌, ◌-◌, ◌≤◌}
-use mathlib.Core.Path.{◌≡◌, refl}
-use native.Mathlib.Numerals.{add-one}
-use native.Mathlib.Omega.{arith}
-use lib.ListN.{length, drop, length-set}
-use lib.Seq.{drop-length}
-use borrow.Author.Rules.{rules}
+use Prim.Native.Nat.{◌-◌, ◌≤◌}
+use mathlib.Core.Path.{◌≡◌}
+use lib.ListN.{length, drop}
 use Rattle.arguments.specs.Arguments.{laid}
-use Rattle.arguments.proofs.Laws.{lay_step}
 use Rattle.arguments.proofs.fields.lay.Given as goal
 
 abbrev pub invariant-loop-k : goal.invariant-loop-k

@@ -1,13 +1,7 @@
 -- Both are digits, or one is not. Assumes nothing.
-use Prim.Native.Nat.{◌≤◌}
-use mathlib.Core.Path.{◌≡◌, sym, ap, ◌∙◌}
-use mathlib.Core.Bool.{true, ◌&&◌}
-use native.Mathlib.Omega.{arith}
-use borrow.Author.Rules.{rules}
-use lib.ListN.{length}
-use Rattle.digits.proofs.Truth.{both}
+use mathlib.Core.Path.{◌≡◌, sym, ◌∙◌}
+use mathlib.Core.Bool.{◌&&◌}
 use Rattle.arguments.specs.Arguments.{digits_fit, before_colon, after_colon, bounds_of}
-use Rattle.arguments.proofs.Laws.{fit_short}
 use Rattle.arguments.proofs.forms.bounds_of.Goals as goal
 
 pub returns-then-digits_fit : goal.returns-then-digits_fit

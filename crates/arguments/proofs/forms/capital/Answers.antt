@@ -1,8 +1,6 @@
 -- A small letter, or any other character. Assumes nothing.
 use mathlib.Core.Path.{sym, ◌∙◌}
-use native.Mathlib.Omega.{arith}
 use Rattle.arguments.specs.Arguments.{capital_of}
-use Rattle.arguments.proofs.Laws.{inside}
 use Rattle.arguments.proofs.forms.capital.Goals as goal
 
 pub returns-then-between : goal.returns-then-between

@@ -1,5 +1,4 @@
 -- Two tests. Assumes nothing.
-use borrow.Author.Rules.{rules}
 use Rattle.arguments.specs.Arguments.{limit_form}
 use Rattle.arguments.proofs.forms.limit_form.Goals as goal
 

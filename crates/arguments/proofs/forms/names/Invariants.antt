@@ -1,11 +1,8 @@
 -- The letters still to compare, against all. Assumes nothing.
 use Prim.Native.Nat.{◌-◌, ◌≤◌}
-use mathlib.Core.Path.{◌≡◌, refl, sym, ap, ◌∙◌}
-use native.Mathlib.Omega.{arith}
+use mathlib.Core.Path.{◌≡◌}
 use lib.ListN.{length, drop}
-use borrow.Author.Rules.{rules}
-use Rattle.arguments.specs.Arguments.{capital_of, names}
-use Rattle.arguments.proofs.Laws.{letter_wrong, letter_right, name_end}
+use Rattle.arguments.specs.Arguments.{names}
 use Rattle.arguments.proofs.forms.names.Given as goal
 
 abbrev pub invariant-loop-i : goal.invariant-loop-i

@@ -1,11 +1,8 @@
 -- What is left to look through, against all. Assumes nothing.
 use Prim.Native.Nat.{◌+◌, ◌-◌, ◌≤◌}
 use mathlib.Core.Path.{◌≡◌}
-use native.Mathlib.Omega.{arith}
 use lib.ListN.{length, drop}
-use borrow.Author.Rules.{rules}
 use Rattle.arguments.specs.Arguments.{place_in}
-use Rattle.arguments.proofs.Laws.{place_here, place_later, place_none}
 use Rattle.arguments.proofs.forms.place_in.Given as goal
 
 abbrev pub invariant-loop-i : goal.invariant-loop-i

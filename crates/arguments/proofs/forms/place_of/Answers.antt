@@ -1,5 +1,4 @@
 -- Among the letters. Assumes nothing.
-use borrow.Author.Rules.{rules}
 use Rattle.arguments.specs.Arguments.{place_of}
 use Rattle.arguments.proofs.forms.place_of.Goals as goal
 

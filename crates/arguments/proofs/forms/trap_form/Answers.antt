@@ -1,5 +1,4 @@
 -- Three tests. Assumes nothing.
-use borrow.Author.Rules.{rules}
 use Rattle.arguments.specs.Arguments.{trap_form}
 use Rattle.arguments.proofs.forms.trap_form.Goals as goal
 

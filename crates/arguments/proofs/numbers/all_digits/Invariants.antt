@@ -1,11 +1,8 @@
 -- The digits still to test, against all. Assumes nothing.
 use Prim.Native.Nat.{◌-◌, ◌≤◌}
-use mathlib.Core.Path.{◌≡◌, refl, sym, ◌∙◌}
-use native.Mathlib.Omega.{arith}
-use lib.ListN.{length, drop, drop_of_length-le}
-use borrow.Author.Rules.{rules}
+use mathlib.Core.Path.{◌≡◌}
+use lib.ListN.{length, drop}
 use Rattle.arguments.specs.Arguments.{all_digits}
-use Rattle.arguments.proofs.Laws.{digit_wrong, digit_right}
 use Rattle.arguments.proofs.numbers.all_digits.Given as goal
 
 abbrev pub invariant-loop-i : goal.invariant-loop-i

@@ -1,8 +1,6 @@
 -- By which digits the character is among. Assumes nothing.
-use native.Mathlib.Omega.{arith}
 use mathlib.Core.Path.{sym, ◌∙◌}
 use Rattle.arguments.specs.Arguments.{digit_value}
-use Rattle.arguments.proofs.Laws.{inside}
 use Rattle.arguments.proofs.numbers.digit_value.Goals as goal
 
 pub returns-then-between : goal.returns-then-between

@@ -1,10 +1,9 @@
 -- The digits still to read, against all. Assumes nothing.
-use Prim.Native.Nat.{◌+◌, ◌-◌, ◌*◌, ◌^◌, ◌≤◌}
-use mathlib.Core.Path.{◌≡◌, refl, ◌∙◌}
+use mathlib.Core.Path.{◌∙◌}
 use native.Mathlib.Omega.{arith}
-use lib.ListN.{length, get_or, drop, drop_of_length-le}
+use lib.ListN.{get_or}
 use borrow.Author.Rules.{rules}
-use Rattle.arguments.specs.Arguments.{digit_value, value_from}
+use Rattle.arguments.specs.Arguments.{digit_value}
 use Rattle.arguments.proofs.Laws.{digit_small, value_step, value_grows, value_fits}
 use Rattle.arguments.proofs.numbers.long_value.Goals as goal
 

@@ -1,11 +1,8 @@
 -- The digits still to read, against all. Assumes nothing.
 use Prim.Native.Nat.{◌+◌, ◌-◌, ◌*◌, ◌^◌, ◌≤◌}
-use mathlib.Core.Path.{◌≡◌, refl, ◌∙◌}
-use native.Mathlib.Omega.{arith}
-use lib.ListN.{length, get_or, drop, drop_of_length-le}
-use borrow.Author.Rules.{rules}
-use Rattle.arguments.specs.Arguments.{digit_value, value_from}
-use Rattle.arguments.proofs.Laws.{digit_small, value_step, value_grows, value_fits}
+use mathlib.Core.Path.{◌≡◌}
+use lib.ListN.{length, drop}
+use Rattle.arguments.specs.Arguments.{value_from}
 use Rattle.arguments.proofs.numbers.long_value.Given as goal
 
 abbrev pub invariant-loop-i : goal.invariant-loop-i

@@ -1,8 +1,6 @@
 -- The number, where it fits. Assumes nothing.
 use mathlib.Core.Path.{sym, ◌∙◌}
-use borrow.Author.Rules.{rules}
 use Rattle.arguments.specs.Arguments.{number_of}
-use Rattle.arguments.proofs.Laws.{number_short}
 use Rattle.arguments.proofs.numbers.number_of.Goals as goal
 
 pub returns-then-not-number_fits : goal.returns-then-not-number_fits

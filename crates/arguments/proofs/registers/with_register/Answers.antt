@@ -1,6 +1,5 @@
 -- One byte, two, or none. Assumes nothing.
 use borrow.Author.Tests.{lt-ltb, le-ltb, eq-eqb, ne_eqb}
-use borrow.Author.Rules.{rules}
 use Rattle.arguments.specs.Arguments.{with_register}
 use Rattle.arguments.proofs.registers.with_register.Goals as goal
 

@@ -8,7 +8,6 @@ use lib.ListN.{length}
 use lib.Pow.{pow_mono}
 use mir.Syntax.{w64}
 use mir.Val.{to_z, of_z}
-use borrow.Author.Rules.{rules}
 use Rattle.digits.specs.Packed.{signed}
 use Rattle.signed.specs.Signed.{greatest}
 use Rattle.signed.proofs.Whole.{signed_reads}

@@ -1,11 +1,7 @@
 -- The scan goes on while no code is found. Assumes nothing.
-use Prim.Native.Nat.{ℕ, ◌-◌, ◌≤◌}
-use mathlib.Core.Path.{◌≡◌, refl, sym, ◌∙◌}
-use mathlib.Core.List.{List, [], ◌∷◌}
-use mathlib.Core.Bool.{cond, not}
+use mathlib.Core.Path.{sym, ◌∙◌}
 use native.Mathlib.Omega.{arith}
-use Rattle.codes.specs.Modelled.{unmodelled_of}
-use Rattle.codes.proofs.Scan.{hit, hit_yes, hit_no, hit_end, found, found_on, found_at, found_end, found_of}
+use Rattle.codes.proofs.Scan.{hit_yes, hit_no, hit_end, found_on, found_at, found_end, found_of}
 use Rattle.codes.proofs.modelled.unmodelled.Goals as goal
 
 pub loop-k-preserved : goal.loop-k-preserved

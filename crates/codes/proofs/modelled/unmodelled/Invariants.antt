@@ -1,11 +1,7 @@
 -- The scan goes on while no code is found. Assumes nothing.
-use Prim.Native.Nat.{ℕ, ◌-◌, ◌≤◌}
-use mathlib.Core.Path.{◌≡◌, refl, sym, ◌∙◌}
-use mathlib.Core.List.{List, [], ◌∷◌}
-use mathlib.Core.Bool.{cond, not}
-use native.Mathlib.Omega.{arith}
-use Rattle.codes.specs.Modelled.{unmodelled_of}
-use Rattle.codes.proofs.Scan.{hit, hit_yes, hit_no, hit_end, found, found_on, found_at, found_end, found_is}
+use Prim.Native.Nat.{◌-◌, ◌≤◌}
+use mathlib.Core.Path.{◌≡◌}
+use Rattle.codes.proofs.Scan.{hit, found}
 use Rattle.codes.proofs.modelled.unmodelled.Given as goal
 
 abbrev pub invariant-loop-k : goal.invariant-loop-k

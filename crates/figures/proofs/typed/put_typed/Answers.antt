@@ -2,7 +2,6 @@
 use mathlib.Core.Path.{◌≡◌, sym, ap, ◌∙◌}
 use mathlib.Core.Bool.{false}
 use lib.ListN.{get_or}
-use borrow.Author.Rules.{rules}
 use borrow.Author.Tests.{eq-eqb, ne_eqb}
 use Rattle.figures.specs.Typed.{from_last, is_mark, sign_for, typed_digits}
 use Rattle.figures.proofs.typed.put_typed.Goals as goal

@@ -7,7 +7,6 @@ use lib.ListN.{get_or}
 use Rattle.word.specs.Parity.{is_return}
 use Rattle.codes.specs.Branches.{high_branches, low_branches}
 use Rattle.machine.specs.Branch.{w_of, x_of, next_of}
-use borrow.Author.Rules.{rules}
 use Rattle.machine.proofs.branch.next_of.Goals as goal
 
 pub returns-then-is_return : goal.returns-then-is_return
