@@ -17,6 +17,7 @@ unfolding signed_of
 returns c =
     let bytes : (i : ℕ) → get_or c.args.main.now i 0 < 256 = λ i. omega (arith, c.slice_known-1.given i) in
     let a = c.args in
-    with_promise a.main.now a.local.now a.first a.second a.length a.subtract (bytes) _ _ _
-    (c.entry.ensures
-    ∙ (λ i. entry_of DONE whole (run_of (bound a.length) Basic (c.words.ensures i) a.main.now a.local.now (start_with a.first a.second a.length (c.with_bit-status.ensures i))) a.main.now a.local.now a.first a.second a.length))
+    let both = with_promise a.main.now a.local.now a.first a.second a.length a.subtract (bytes) _ _ _
+      (c.entry.ensures
+      ∙ (λ i. entry_of DONE whole (run_of (bound a.length) Basic (c.words.ensures i) a.main.now a.local.now (start_with a.first a.second a.length (c.with_bit-status.ensures i))) a.main.now a.local.now a.first a.second a.length)) in
+    record { run = both.0; promise = both.1 }

@@ -5,4 +5,4 @@ use Rattle.arguments.proofs.forms.place_of.Goals as goal
 
 pub returns : goal.returns
 unfolding place_of
-returns c = rw (c.IsPlace-in.ensures.0, c.capital.ensures, c.byte_at.ensures)
+returns c = rw (c.place_in.ensures.0, c.capital.ensures, c.byte_at.ensures)

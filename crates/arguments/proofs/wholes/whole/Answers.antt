@@ -21,13 +21,14 @@ pub returns-then-digits_fit : goal.returns-then-digits_fit
 unfolding whole_in
 returns-then-digits_fit c =
     let text = c.args.text.now in
+    let fine : digits_fit 10 15 text ≡ true = sym c.digits_fit.ensures ∙ c.if-digits_fit.true in
     let minus = c.args.minus in
     let v = c.long_value.ensures in
-    let p : 2 ^ (4 * length text + 1) ≤ 2 ^ 61 = pow_mono {j = 61} (omega (arith, fit_short 10 15 text (fine at))) in
+    let p : 2 ^ (4 * length text + 1) ≤ 2 ^ 61 = pow_mono {j = 61} (omega (arith, fit_short 10 15 text fine)) in
     let h : c.long_value.result ≤ greatest = omega (arith, v.1) in
     let number : to_z w64 (of_z w64 c.with_sign.result) ≡ signed minus (value_from 10 0 text) =
     ap (λ (z : ℤ). to_z w64 (of_z w64 z)) c.with_sign.ensures ∙ signed_reads c.long_value.result h minus ∙ ap (signed minus) v.0 in
-    rw (fine at) (ap W.Is number)
+    rw fine (ap W.Is number)
 
 pub returns-then-digits_fit-2 : goal.returns-then-digits_fit-2
 unfolding whole_in
