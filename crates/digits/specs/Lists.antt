@@ -1,5 +1,5 @@
 -- A list in pieces, and what is made of its elements one after the other. Assumes nothing.
-use Rattle.std.specs.Prelude.{ℕ, zero, suc, ◌+◌, List, [], ◌∷◌, ◌++◌, Bool, true, ◌&&◌, take, drop, eqb}
+use Rattle.std.specs.Prelude.{ℕ, zero, suc, List, [], ◌∷◌, ◌++◌, Bool, true, ◌&&◌, take, drop, eqb}
 
 -- n pieces of k each; the last may have fewer
 abbrev pub pieces : {A : Type 0} → ℕ → ℕ → List A → List (List A)

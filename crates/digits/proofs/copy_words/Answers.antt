@@ -1,14 +1,12 @@
 -- One word a turn, while there is one and room for it. Assumes nothing.
-use Prim.Native.Nat.{ℕ, ◌-◌, ◌≤◌, ◌<◌}
-use mathlib.Core.Path.{◌≡◌, refl, ◌∙◌}
-use mathlib.Core.List.{◌++◌}
+use Prim.Native.Nat.{ℕ, ◌<◌}
+use mathlib.Core.Path.{◌≡◌, refl}
 use mathlib.Core.Bool.{true, ◌&&◌}
 use native.Mathlib.Omega.{arith}
-use lib.ListN.{length, take, drop, length-set}
+use lib.ListN.{length, length-set}
 use lib.Dec.{ltb}
-use borrow.Author.Rules.{rules}
 use borrow.Author.Tests.{ltb-true}
-use Rattle.digits.proofs.Copies.{copy_step, copy_end}
+use Rattle.digits.proofs.Copies.{copy_step}
 use Rattle.digits.proofs.Truth.{both}
 use Rattle.digits.proofs.copy_words.Goals as goal
 

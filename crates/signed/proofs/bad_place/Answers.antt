@@ -1,11 +1,7 @@
 -- The places left stand for all. Assumes nothing.
-use Prim.Native.Nat.{◌-◌, ◌≤◌}
-use mathlib.Core.Path.{◌≡◌, refl, sym, ◌∙◌}
+use mathlib.Core.Path.{sym, ◌∙◌}
 use native.Mathlib.Omega.{arith}
-use lib.ListN.{drop}
-use Rattle.signed.specs.Signed.{fifteen, over_nine, bad_place}
-use Rattle.signed.proofs.Fields.{over_here, over_next, over_end}
-use borrow.Author.Rules.{rules}
+use Rattle.signed.proofs.Fields.{over_here, over_next}
 use Rattle.signed.proofs.bad_place.Goals as goal
 
 pub returns-then-digit_at-gt9 : goal.returns-then-digit_at-gt9

@@ -1,11 +1,8 @@
 -- The places left stand for all. Assumes nothing.
 use Prim.Native.Nat.{◌-◌, ◌≤◌}
-use mathlib.Core.Path.{◌≡◌, refl, sym, ◌∙◌}
-use native.Mathlib.Omega.{arith}
+use mathlib.Core.Path.{◌≡◌}
 use lib.ListN.{drop}
 use Rattle.signed.specs.Signed.{fifteen, over_nine, bad_place}
-use Rattle.signed.proofs.Fields.{over_here, over_next, over_end}
-use borrow.Author.Rules.{rules}
 use Rattle.signed.proofs.bad_place.Given as goal
 
 abbrev pub invariant-loop-place : goal.invariant-loop-place

@@ -2,7 +2,6 @@
 use mathlib.Core.Path.{sym}
 use native.Mathlib.Omega.{arith}
 use Rattle.signed.proofs.Fields.{even, odd}
-use borrow.Author.Rules.{rules}
 use Rattle.signed.proofs.digit_at.Goals as goal
 
 pub returns-then-place-eq0 : goal.returns-then-place-eq0

@@ -1,15 +1,11 @@
 -- From the last byte on: what is still to put, before what is put. Assumes nothing.
-use Prim.Native.Nat.{ℕ, ◌+◌, ◌-◌, ◌*◌, ◌/◌, ◌%◌, ◌<◌, ◌≤◌}
-use mathlib.Core.Path.{◌≡◌, ap, ◌∙◌}
-use mathlib.Core.List.{◌++◌, append-nil}
-use native.Mathlib.Omega.{arith}
-use lib.ListN.{length, drop, length-set}
-use lib.Seq.{drop-length}
-use borrow.Author.Rules.{rules}
+use Prim.Native.Nat.{◌<◌, ◌≤◌}
+use mathlib.Core.Path.{◌≡◌}
+use mathlib.Core.List.{◌++◌}
+use lib.ListN.{length, drop}
 use Rattle.digits.specs.Packed.{in_bytes}
-use Rattle.digits.proofs.Puts.{put_before}
 use Rattle.signed.specs.Signed.{signed_field}
-use Rattle.signed.proofs.Fields.{ended, last_byte_lem}
+use Rattle.signed.proofs.Fields.{ended}
 use Rattle.signed.proofs.put.Given as goal
 
 abbrev pub invariant-loop-i : goal.invariant-loop-i

@@ -13,7 +13,6 @@ use Rattle.signed.specs.declared.ReadOut.TheVariants as R
 use Rattle.digits.proofs.Packed.{minus_digits, none_digits}
 use Rattle.signed.proofs.Whole.{signed_reads}
 use Rattle.signed.proofs.Answers.{read_33, read_25, read_26, read_number_lem}
-use borrow.Author.Rules.{rules}
 use Rattle.signed.proofs.read_signed.Goals as goal
 
 pub returns-then-field-ne8 : goal.returns-then-field-ne8

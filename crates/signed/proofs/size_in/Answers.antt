@@ -1,12 +1,7 @@
 -- The digits left, after the number that those before them write. Assumes nothing.
-use Prim.Native.Nat.{◌+◌, ◌-◌, ◌*◌, ◌^◌, ◌≤◌}
-use mathlib.Core.Path.{◌≡◌, refl, sym, ◌∙◌}
+use mathlib.Core.Path.{sym, ◌∙◌}
 use native.Mathlib.Omega.{arith}
-use lib.ListN.{drop}
-use Rattle.digits.specs.Tens.{tens_from, tens}
-use Rattle.signed.specs.Signed.{fifteen}
-use Rattle.signed.proofs.Fields.{tens_next, tens_end, bound_next, bound_within}
-use borrow.Author.Rules.{rules}
+use Rattle.signed.proofs.Fields.{tens_next, bound_next, bound_within}
 use Rattle.signed.proofs.size_in.Goals as goal
 
 pub overflow_mul-size : goal.overflow_mul-size

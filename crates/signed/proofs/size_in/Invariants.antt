@@ -1,12 +1,9 @@
 -- The digits left, after the number that those before them write. Assumes nothing.
 use Prim.Native.Nat.{◌+◌, ◌-◌, ◌*◌, ◌^◌, ◌≤◌}
-use mathlib.Core.Path.{◌≡◌, refl, sym, ◌∙◌}
-use native.Mathlib.Omega.{arith}
+use mathlib.Core.Path.{◌≡◌}
 use lib.ListN.{drop}
 use Rattle.digits.specs.Tens.{tens_from, tens}
 use Rattle.signed.specs.Signed.{fifteen}
-use Rattle.signed.proofs.Fields.{tens_next, tens_end, bound_next, bound_within}
-use borrow.Author.Rules.{rules}
 use Rattle.signed.proofs.size_in.Given as goal
 
 abbrev pub invariant-loop-place : goal.invariant-loop-place

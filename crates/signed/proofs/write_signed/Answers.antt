@@ -1,17 +1,14 @@
 -- Each test, then the field. Assumes nothing.
-use mathlib.Core.Path.{◌≡◌, sym, ap, subst, ◌∙◌}
+use mathlib.Core.Path.{◌≡◌, ap, ◌∙◌}
 use native.Mathlib.Omega.{arith}
-use Prim.Native.Nat.{ℕ, ◌<◌}
 use lib.IntN.{pos, nat_abs}
 use lib.Signed.{lt_z}
 use mir.Syntax.{w64}
 use mir.Val.{to_z, of_z}
 use Rattle.digits.specs.Packed.{preferred, below_zero}
-use Rattle.digits.proofs.Packed.{preferred_is}
 use Rattle.signed.specs.Signed.{signed_field}
 use Rattle.signed.proofs.Whole.{reads, below_zero_lem}
 use Rattle.signed.proofs.Answers.{write_33, write_27, written}
-use borrow.Author.Rules.{rules}
 use Rattle.signed.proofs.write_signed.Goals as goal
 
 pub returns-then-field-ne8 : goal.returns-then-field-ne8

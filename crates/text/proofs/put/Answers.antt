@@ -1,7 +1,6 @@
 -- 19, or the text. Assumes nothing.
 use mathlib.Core.Path.{◌∙◌}
 use native.Mathlib.Omega.{arith}
-use borrow.Author.Rules.{rules}
 use Rattle.digits.proofs.Copies.{copied_all}
 use Rattle.text.proofs.Texts.{too_small, fits}
 use Rattle.text.proofs.put.Goals as goal

@@ -3,7 +3,6 @@ use mathlib.Core.Path.{refl, sym, ◌∙◌}
 use mathlib.Core.List.{[], ◌++◌, append-nil}
 use native.Mathlib.Omega.{arith}
 use lib.ListN.{length, length-append}
-use borrow.Author.Rules.{rules}
 use Rattle.digits.proofs.Copies.{copied_all}
 use Rattle.digits.proofs.Puts.{Put, put_copy, put_all}
 use Rattle.text.proofs.Texts.{too_small, fits}

@@ -1,10 +1,9 @@
 -- From the low end: the digits still to put, before those that are put. Assumes nothing.
-use Prim.Native.Nat.{◌-◌, ◌/◌, ◌%◌, ◌≤◌}
-use mathlib.Core.Path.{◌≡◌, refl, ap, ◌∙◌}
-use mathlib.Core.List.{[], ◌∷◌, ◌++◌, map, map-append, append-nil}
+use Prim.Native.Nat.{◌-◌, ◌/◌, ◌%◌}
+use mathlib.Core.Path.{◌≡◌, ap, ◌∙◌}
+use mathlib.Core.List.{[], ◌∷◌, ◌++◌, map, map-append}
 use native.Mathlib.Omega.{arith}
-use lib.ListN.{length, drop, length-set}
-use lib.Seq.{drop-length}
+use lib.ListN.{length-set}
 use borrow.Author.Rules.{rules}
 use Rattle.digits.specs.Number.{digits_of}
 use Rattle.digits.proofs.Number.{digits_last}

@@ -1,15 +1,9 @@
 -- From the low end: the digits still to put, before those that are put. Assumes nothing.
-use Prim.Native.Nat.{◌-◌, ◌/◌, ◌%◌, ◌≤◌}
-use mathlib.Core.Path.{◌≡◌, refl, ap, ◌∙◌}
-use mathlib.Core.List.{[], ◌∷◌, ◌++◌, map, map-append, append-nil}
-use native.Mathlib.Omega.{arith}
-use lib.ListN.{length, drop, length-set}
-use lib.Seq.{drop-length}
-use borrow.Author.Rules.{rules}
-use Rattle.digits.specs.Number.{digits_of}
-use Rattle.digits.proofs.Number.{digits_last}
-use Rattle.digits.proofs.Puts.{put_before}
-use Rattle.text.specs.Text.{capital, hexadecimal}
+use Prim.Native.Nat.{◌≤◌}
+use mathlib.Core.Path.{◌≡◌}
+use mathlib.Core.List.{◌++◌}
+use lib.ListN.{length, drop}
+use Rattle.text.specs.Text.{hexadecimal}
 use Rattle.text.proofs.put_hexadecimal.Given as goal
 
 abbrev pub invariant-loop-i : goal.invariant-loop-i

@@ -1,12 +1,8 @@
 -- One space a turn: a copy of that many spaces. Assumes nothing.
 use Prim.Native.Nat.{ℕ, ◌-◌, ◌≤◌}
-use mathlib.Core.Path.{◌≡◌, refl, sym, ◌∙◌}
-use mathlib.Core.List.{List, ◌++◌, append-nil}
-use native.Mathlib.Omega.{arith}
-use lib.ListN.{length, take, drop, replicate, length-set, length-replicate, get_or-replicate, drop_of_length-le}
-use lib.Seq.{take_all}
-use borrow.Author.Rules.{rules}
-use Rattle.digits.proofs.Copies.{copy_step}
+use mathlib.Core.Path.{◌≡◌}
+use mathlib.Core.List.{List, ◌++◌}
+use lib.ListN.{length, take, drop, replicate}
 use Rattle.text.proofs.put_spaces.Given as goal
 
 abbrev blank : ℕ → List ℕ

@@ -1,13 +1,12 @@
 -- One byte a turn: the front that is put, and what is left of the record. Assumes nothing.
 use Prim.Native.Nat.{◌+◌, ◌-◌, ◌≤◌}
-use mathlib.Core.Path.{◌≡◌, ◌∙◌}
+use mathlib.Core.Path.{◌≡◌}
 use native.Mathlib.Omega.{arith}
-use lib.ListN.{length, get_or, length-take, length-drop}
+use lib.ListN.{length, get_or}
 use borrow.Author.Rules.{rules}
-use Rattle.digits.proofs.Copies.{over_full}
-use Rattle.digits.proofs.Puts.{Put, put_none, put_turn, put_all}
-use Rattle.lamps.specs.Columns.{cell, byte_cells}
-use Rattle.lamps.proofs.Cells.{rest_from, rest_step, rest_end, length_cell, cell_room}
+use Rattle.digits.proofs.Puts.{put_turn}
+use Rattle.lamps.specs.Columns.{cell}
+use Rattle.lamps.proofs.Cells.{rest_from, rest_step, length_cell, cell_room}
 use Rattle.lamps.proofs.columns.put_cells.Goals as goal
 
 pub slice_bounds-put_cell-end : goal.slice_bounds-put_cell-end

@@ -1,13 +1,9 @@
 -- One byte a turn: the front that is put, and what is left of the record. Assumes nothing.
-use Prim.Native.Nat.{◌+◌, ◌-◌, ◌≤◌}
-use mathlib.Core.Path.{◌≡◌, ◌∙◌}
-use native.Mathlib.Omega.{arith}
-use lib.ListN.{length, get_or, length-take, length-drop}
-use borrow.Author.Rules.{rules}
-use Rattle.digits.proofs.Copies.{over_full}
-use Rattle.digits.proofs.Puts.{Put, put_none, put_turn, put_all}
-use Rattle.lamps.specs.Columns.{cell, byte_cells}
-use Rattle.lamps.proofs.Cells.{rest_from, rest_step, rest_end, length_cell, cell_room}
+use Prim.Native.Nat.{◌-◌, ◌≤◌}
+use lib.ListN.{length}
+use Rattle.digits.proofs.Puts.{Put}
+use Rattle.lamps.specs.Columns.{byte_cells}
+use Rattle.lamps.proofs.Cells.{rest_from}
 use Rattle.lamps.proofs.columns.put_cells.Given as goal
 
 abbrev pub invariant-loop-i : goal.invariant-loop-i

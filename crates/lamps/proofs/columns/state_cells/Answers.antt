@@ -1,16 +1,15 @@
 -- The record of the state, in its columns. Assumes nothing.
-use mathlib.Core.Path.{refl, sym, ◌∙◌}
+use mathlib.Core.Path.{sym, ◌∙◌}
 use mathlib.Core.List.{append-nil}
-use borrow.Author.Rules.{rules}
 use Rattle.channels.specs.Channels.{channels, saved}
 use Rattle.lamps.proofs.Cells.{cells_bytes}
 use Rattle.lamps.proofs.columns.state_cells.Goals as goal
 
-pub put_cells-requires : goal.put_cells-requires
+pub put_cells-requires-clause-bytes_len : goal.put_cells-requires-clause-bytes_len
 unfolding saved
-put_cells-requires c = rw c.saved-record.ensures ((refl, refl), refl)
+put_cells-requires-clause-bytes_len c = rw c.saved-record.ensures
 
 pub returns : goal.returns
 unfolding saved
 returns c =
-    append-nil _ ∙ (rw c.saved.ensures at c.put_cells.ensures) ∙ sym (cells_bytes channels c.args.s)
+    append-nil _ ∙ (rw c.saved-record.ensures at c.put_cells.ensures) ∙ sym (cells_bytes channels c.args.s)

@@ -1,5 +1,4 @@
 -- By the ending. Assumes nothing.
-use borrow.Author.Rules.{rules}
 use Rattle.lamps.specs.Ending.{ending_of}
 use Rattle.lamps.proofs.endings.ending.Goals as goal
 

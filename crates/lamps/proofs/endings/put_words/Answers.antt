@@ -1,11 +1,8 @@
 -- All of the room that is left is lent, which is enough. Assumes nothing.
-use Prim.Native.Nat.{ℕ}
-use mathlib.Core.Path.{◌≡◌, sym, ◌∙◌}
+use mathlib.Core.Path.{sym, ◌∙◌}
 use native.Mathlib.Omega.{arith}
 use lib.ListN.{length}
-use borrow.Author.Rules.{rules}
 use Rattle.text.specs.Words.{words_of}
-use Rattle.text.specs.declared.Written.TheVariants as W
 use Rattle.text.proofs.Promises.{written_tells}
 use Rattle.text.proofs.Rows.{words_short}
 use Rattle.lamps.proofs.Told.{same_text, words_put}
@@ -13,19 +10,15 @@ use Rattle.lamps.proofs.endings.put_words.Goals as goal
 
 pub overflow_add-result : goal.overflow_add-result
 overflow_add-result c =
-    let size : (n : ℕ) → c.words.result ≡ W.Text n → n ≡ length (words_of c.args.number) = λ n e. let a = c.args in
+    let a = c.args in
     let r = words_put a.number a.at a.room.now c.words.new.room c.words.result c.requires c.words.ensures in
-    same_text (sym e ∙ r.0) in
-    omega (arith, size c.in-Text.size c.in-Text.is, words_short c.args.number)
+    omega (arith, same_text (sym c.in-Text.is ∙ r.0), words_short a.number)
 
 pub returns-in-Text : goal.returns-in-Text
 returns-in-Text c =
-    let size : (n : ℕ) → c.words.result ≡ W.Text n → n ≡ length (words_of c.args.number) = λ n e. let a = c.args in
-    let r = words_put a.number a.at a.room.now c.words.new.room c.words.result c.requires c.words.ensures in
-    same_text (sym e ∙ r.0) in
     let a = c.args in
-    let n = size c.in-Text.size c.in-Text.is in
     let r = words_put a.number a.at a.room.now c.words.new.room c.words.result c.requires c.words.ensures in
+    let n = same_text (sym c.in-Text.is ∙ r.0) in
     record { upper_bound = omega (arith, n, words_short a.number); value = (omega (arith, n), r.1) }
 
 pub returns-in-Refused : goal.returns-in-Refused

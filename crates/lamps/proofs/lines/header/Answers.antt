@@ -1,6 +1,5 @@
 -- The names, as the list has them. Assumes nothing.
 use Rattle.lamps.specs.Line.{header_of}
-use borrow.Author.Rules.{rules}
 use Rattle.lamps.proofs.lines.header.Goals as goal
 
 pub returns : goal.returns

@@ -1,7 +1,6 @@
 -- 19, or the four pieces. Assumes nothing.
 use mathlib.Core.Path.{refl}
 use mathlib.Core.List.{[], ◌∷◌, ◌++◌}
-use borrow.Author.Rules.{rules}
 use Rattle.digits.proofs.Puts.{put_none}
 use Rattle.text.proofs.Texts.{too_small}
 use Rattle.channels.specs.Channels.{channels, work_channels}

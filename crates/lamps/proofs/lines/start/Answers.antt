@@ -1,7 +1,6 @@
 -- 19, or the three pieces. Assumes nothing.
 use mathlib.Core.Path.{refl}
 use mathlib.Core.List.{[], ◌∷◌, ◌++◌}
-use borrow.Author.Rules.{rules}
 use Rattle.digits.proofs.Puts.{put_none}
 use Rattle.text.specs.Ascii.{ascii}
 use Rattle.text.proofs.Texts.{too_small}

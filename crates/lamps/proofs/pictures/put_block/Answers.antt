@@ -5,7 +5,6 @@ use mathlib.Core.List.{[], ◌∷◌, ◌++◌}
 use native.Mathlib.Nat.{add-sub_cancel_left}
 use native.Mathlib.Omega.{arith}
 use lib.ListN.{length}
-use borrow.Author.Rules.{rules}
 use Rattle.digits.proofs.Puts.{put_turn, put_from}
 use Rattle.lamps.specs.Picture.{block_bytes}
 use Rattle.lamps.proofs.Chain.{then, fits_past, finished_past}

@@ -1,15 +1,14 @@
 -- The blocks of the record, under the names of its rows. Assumes nothing.
-use mathlib.Core.Path.{refl, ap, ◌∙◌}
-use borrow.Author.Rules.{rules}
+use mathlib.Core.Path.{ap, ◌∙◌}
 use Rattle.channels.specs.Channels.{channels, saved}
 use Rattle.lamps.specs.Columns.{digit_counts}
 use Rattle.lamps.specs.Picture.{blocks_bytes}
 use Rattle.lamps.proofs.Rows.{names_in, state_blocks}
 use Rattle.lamps.proofs.pictures.put_state.Goals as goal
 
-pub put_blocks-requires : goal.put_blocks-requires
+pub put_blocks-requires-clause-bytes_in_bounds : goal.put_blocks-requires-clause-bytes_in_bounds
 unfolding saved
-put_blocks-requires c = rw c.saved.ensures ((refl, refl), c.requires)
+put_blocks-requires-clause-bytes_in_bounds c = rw c.saved.ensures c.requires
 
 pub returns : goal.returns
 returns c =

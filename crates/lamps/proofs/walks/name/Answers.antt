@@ -5,7 +5,6 @@ use mathlib.Core.List.{append-nil}
 use native.Mathlib.Nat.{add-sub_cancel_left}
 use native.Mathlib.Omega.{arith}
 use lib.ListN.{replicate}
-use borrow.Author.Rules.{rules}
 use Rattle.digits.proofs.Copies.{copied_full}
 use Rattle.lamps.specs.Walk.{row_name}
 use Rattle.lamps.proofs.Lit.{name_at, length_name}

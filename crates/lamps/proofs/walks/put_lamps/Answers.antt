@@ -1,14 +1,13 @@
 -- One lamp a turn: the front that is put, and the lamps that are left. Assumes nothing.
-use Prim.Native.Nat.{◌+◌, ◌-◌, ◌*◌, ◌≤◌}
-use mathlib.Core.Path.{◌≡◌, ◌∙◌}
+use Prim.Native.Nat.{◌+◌, ◌-◌, ◌*◌}
+use mathlib.Core.Path.{◌≡◌}
 use native.Mathlib.Nat.{add-sub_cancel_left}
 use native.Mathlib.Omega.{arith}
-use lib.ListN.{length, get_or, drop, length-take, length-drop}
+use lib.ListN.{get_or}
 use borrow.Author.Rules.{rules}
-use Rattle.digits.proofs.Copies.{over_full}
-use Rattle.digits.proofs.Puts.{Put, put_none, put_turn, put_all}
+use Rattle.digits.proofs.Puts.{put_turn}
 use Rattle.lamps.specs.Walk.{pairs, walk_line}
-use Rattle.lamps.proofs.Lit.{line_length, lines_of, lamps_from, lamps_step, lamps_end, length_line, length_lines, length_pairs}
+use Rattle.lamps.proofs.Lit.{line_length, lamps_step, length_line, length_lines, length_pairs}
 use Rattle.lamps.proofs.walks.put_lamps.Goals as goal
 
 pub loop-i-preserved : goal.loop-i-preserved

@@ -1,7 +1,6 @@
 -- The one lamp of a latch, or the eight of a byte. Assumes nothing.
 use mathlib.Core.Path.{refl, ◌∙◌}
 use native.Mathlib.Omega.{arith}
-use borrow.Author.Rules.{rules}
 use borrow.Author.Tests.{eq-eqb, ne_eqb}
 use Rattle.lamps.specs.Walk.{lamps_of}
 use Rattle.lamps.proofs.Lit.{length_lines}

@@ -1,17 +1,17 @@
 -- 19, or one row a turn. Assumes nothing.
-use Prim.Native.Nat.{◌+◌, ◌-◌, ◌≤◌}
+use Prim.Native.Nat.{◌+◌, ◌-◌}
 use mathlib.Core.Path.{◌≡◌}
 use native.Mathlib.Nat.{add-sub_cancel_left}
 use native.Mathlib.Omega.{arith}
-use lib.ListN.{length, get_or, drop, length-take, length-drop}
+use lib.ListN.{length, get_or}
 use borrow.Author.Rules.{rules}
-use Rattle.digits.proofs.Puts.{Put, put_none, put_turn}
+use Rattle.digits.proofs.Puts.{put_turn}
 use Rattle.text.proofs.Texts.{too_small}
 use Rattle.channels.specs.Channels.{channels, record_length}
 use Rattle.lamps.specs.Columns.{digit_counts}
 use Rattle.lamps.specs.Walk.{walk_row, walk_of}
 use Rattle.lamps.proofs.Chain.{finished}
-use Rattle.lamps.proofs.Lit.{rows_left, row_step, row_room, length_row, length_walk}
+use Rattle.lamps.proofs.Lit.{row_step, row_room, length_row, length_walk}
 use Rattle.lamps.proofs.walks.walk.Goals as goal
 
 pub returns-then-room-lt14076 : goal.returns-then-room-lt14076
@@ -19,7 +19,9 @@ unfolding walk_of
 returns-then-room-lt14076 c = too_small walk_of c.args.room.now (omega (arith, length_walk, c.if-room-lt14076.true))
 
 pub overflow_add-end : goal.overflow_add-end
-overflow_add-end c = omega (arith, slice_bounds-put_row-end c)
+overflow_add-end c =
+    let l = c.loop-row in
+    omega (arith, c.row_size.ensures, row_room l.row c.loop-row-test.true c.if-room-lt14076.false l.invariant.1)
 
 pub slice_bounds-put_row-end : goal.slice_bounds-put_row-end
 slice_bounds-put_row-end c =

@@ -4,7 +4,6 @@ use mathlib.Core.Path.{◌≡◌}
 use native.Mathlib.Nat.{add-sub_cancel_left}
 use native.Mathlib.Omega.{arith}
 use lib.ListN.{get_or}
-use borrow.Author.Rules.{rules}
 use Rattle.text.proofs.Rows.{sizes, size_fits, words_at_lem}
 use Rattle.text.proofs.refusals.words.Goals as goal
 

@@ -1,0 +1,9 @@
+-- The entry of AP. Assumes nothing.
+use Rattle.panel.specs.Answers.{add_signed_call}
+use Rattle.panel.proofs.Calls.{added}
+use borrow.Author.Rules.{rules}
+use Rattle.panel.proofs.panel_add_signed.Goals as goal
+
+pub returns : goal.returns
+unfolding add_signed_call
+returns c = added _ _ _ _ _ c.add.ensures.run c.added_code.ensures
