@@ -19,11 +19,11 @@ use Rattle.arguments.specs.declared.Given.TheVariants as G
 use Rattle.arguments.proofs.Laws.{gives_byte, gives_address, gives_from, gives_to, gives_trap, gives_reading}
 use Rattle.arguments.specs.declared.Whole.{Whole}
 use Rattle.arguments.proofs.wholes.whole_of.Reads as whole_of
-use Rattle.arguments.proofs.numbers.number_of.Reads as number_of_lem
+use Rattle.arguments.proofs.numbers.number_of.Reads as number_of_reads
 use Rattle.arguments.proofs.numbers.is_number.Reads as is_number
-use Rattle.arguments.proofs.forms.given_of.Reads as given-of
+use Rattle.arguments.proofs.forms.given_of.Reads as given_of_reads
 use Rattle.arguments.proofs.forms.bounds_of.Reads as bounds_of
-use Rattle.arguments.proofs.registers.with_register.Reads as with-register
+use Rattle.arguments.proofs.registers.with_register.Reads as with_register
 use Rattle.arguments.proofs.fields.lay.Reads as lay
 
 -- ---- exactly when
@@ -75,19 +75,19 @@ given_wrong text = (
 pub whole_of_sole : (κs : _) (args : _) (r s : Whole) (x y : _) → whole_of.Post κs args r x → whole_of.Post κs args s y → r ≡ s
 whole_of_sole κs args r s x y p q = sole p q
 
-pub number_of_sole : (κs : _) (args : _) (r s : Number) (x y : _) → number_of_lem.Post κs args r x → number_of_lem.Post κs args s y → r ≡ s
+pub number_of_sole : (κs : _) (args : _) (r s : Number) (x y : _) → number_of_reads.Post κs args r x → number_of_reads.Post κs args s y → r ≡ s
 number_of_sole κs args r s x y p q = sole p q
 
 pub is_number_sole : (κs : _) (args : _) (r s : Bool) (x y : _) → is_number.Post κs args r x → is_number.Post κs args s y → r ≡ s
 is_number_sole κs args r s x y p q = sole p q
 
-pub given_of_sole : (κs : _) (args : _) (r s : Given) (x y : _) → given-of.Post κs args r x → given-of.Post κs args s y → r ≡ s
+pub given_of_sole : (κs : _) (args : _) (r s : Given) (x y : _) → given_of_reads.Post κs args r x → given_of_reads.Post κs args s y → r ≡ s
 given_of_sole κs args r s x y p q = sole p q
 
 pub bounds_of_sole : (κs : _) (args : _) (r s : Bounds) (x y : _) → bounds_of.Post κs args r x → bounds_of.Post κs args s y → r ≡ s
 bounds_of_sole κs args r s x y p q = sole p q
 
-pub with_register_sole : (κs : _) (args : _) (r s : State) (x y : _) → with-register.Post κs args r x → with-register.Post κs args s y → r ≡ s
+pub with_register_sole : (κs : _) (args : _) (r s : State) (x y : _) → with_register.Post κs args r x → with_register.Post κs args s y → r ≡ s
 with_register_sole κs args r s x y p q = sole p q
 
 pub lay_sole : (κs : _) (args : _) (r s : _) (x y : _) → lay.Post κs args r x → lay.Post κs args s y → x.1.0.now ≡ y.1.0.now

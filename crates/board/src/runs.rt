@@ -18,7 +18,7 @@ pub enum Wanted {
     Two,
 }
 
-// The file of that path, which is open while it is read. A path is UTF-8, so no other names a file.
+// The file of that path, which is open while it is read. std takes a path as text, so one that is not UTF-8 is not opened.
 fn read_from(rt: &impl Files, path: &[u8], room: &mut [u8]) -> Input
     ensures { Inside result (length room.new) }
 {

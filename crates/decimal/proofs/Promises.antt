@@ -15,11 +15,11 @@ use Rattle.decimal.specs.Program.{shipped}
 use Rattle.decimal.specs.Entry.{add_checks}
 use Rattle.decimal.specs.declared.Added.{Added}
 use Rattle.decimal.proofs.words.Reads as words
-use Rattle.decimal.proofs.start_with.Reads as start-with
+use Rattle.decimal.proofs.start_with.Reads as start_with
 use Rattle.decimal.proofs.start.Reads as start
 use Rattle.decimal.proofs.entry.Reads as entry
-use Rattle.decimal.proofs.answered_at.Reads as answered-at
-use Rattle.decimal.proofs.add_in.Reads as add-in
+use Rattle.decimal.proofs.answered_at.Reads as answered_at
+use Rattle.decimal.proofs.add_in.Reads as add_in
 use Rattle.decimal.proofs.add.Reads as add
 
 -- ---- no second answer fits, nor a second storage
@@ -27,20 +27,20 @@ use Rattle.decimal.proofs.add.Reads as add
 pub words_sole : (κs : _) (args : _) (r q : List ℕ) (x y : _) → words.Post κs args r x → words.Post κs args q y → r ≡ q
 words_sole κs args r q x y a b = sole a b
 
-pub start_with_sole : (κs : _) (args : _) (r q : State) (x y : _) → start-with.Post κs args r x → start-with.Post κs args q y → r ≡ q
+pub start_with_sole : (κs : _) (args : _) (r q : State) (x y : _) → start_with.Post κs args r x → start_with.Post κs args q y → r ≡ q
 start_with_sole κs args r q x y a b = sole a b
 
 pub start_sole : (κs : _) (args : _) (r q : State) (x y : _) → start.Post κs args r x → start.Post κs args q y → r ≡ q
 start_sole κs args r q x y a b = sole a b
 
-pub answered_at_sole : (κs : _) (args : _) (r q : Added) (x y : _) → answered-at.Post κs args r x → answered-at.Post κs args q y → r ≡ q
+pub answered_at_sole : (κs : _) (args : _) (r q : Added) (x y : _) → answered_at.Post κs args r x → answered_at.Post κs args q y → r ≡ q
 answered_at_sole κs args r q x y a b = sole a b
 
 pub entry_sole : (κs : _) (args : _) (r q : Added) (x y : _) → entry.Post κs args r x → entry.Post κs args q y
     → outcome r x.1.1.0.now x.1.1.1.0.now ≡ outcome q y.1.1.0.now y.1.1.1.0.now
 entry_sole κs args r q x y a b = sole a b
 
-pub add_in_sole : (κs : _) (args : _) (r q : Added) (x y : _) → add-in.Post κs args r x → add-in.Post κs args q y → outcome r x.1.0.now x.1.1.0.now ≡ outcome q y.1.0.now y.1.1.0.now
+pub add_in_sole : (κs : _) (args : _) (r q : Added) (x y : _) → add_in.Post κs args r x → add_in.Post κs args q y → outcome r x.1.0.now x.1.1.0.now ≡ outcome q y.1.0.now y.1.1.0.now
 add_in_sole κs args r q x y a b = sole a.0 b.0
 
 pub add_sole : (κs : _) (args : _) (r q : Added) (x y : _) → add.Post κs args r x → add.Post κs args q y → outcome r x.0.now x.1.0.now ≡ outcome q y.0.now y.1.0.now

@@ -6,7 +6,7 @@ use Rattle.lamps.proofs.lines.header.Reads as header
 use Rattle.lamps.proofs.lines.line.Reads as line
 use Rattle.lamps.proofs.lines.start.Reads as start
 use Rattle.lamps.proofs.pictures.picture.Reads as picture
-use Rattle.lamps.proofs.pictures.start_picture.Reads as start-picture
+use Rattle.lamps.proofs.pictures.start_picture.Reads as start_picture
 use Rattle.lamps.proofs.walks.walk.Reads as walk
 use Rattle.lamps.proofs.endings.ending.Reads as ending
 use Rattle.lamps.proofs.endings.trapped.Reads as trapped
@@ -23,7 +23,7 @@ start_sole κs args r s x y p q = (sole p.0 q.0, sole p.1 q.1)
 pub picture_sole : (κs : _) (args : _) (r s : Written) (x y : _) → picture.Post κs args r x → picture.Post κs args s y → (r ≡ s) × (x.1.1.1.1.0.now ≡ y.1.1.1.1.0.now)
 picture_sole κs args r s x y p q = (sole p.0 q.0, sole p.1 q.1)
 
-pub start_picture_sole : (κs : _) (args : _) (r s : Written) (x y : _) → start-picture.Post κs args r x → start-picture.Post κs args s y → (r ≡ s) × (x.1.0.now ≡ y.1.0.now)
+pub start_picture_sole : (κs : _) (args : _) (r s : Written) (x y : _) → start_picture.Post κs args r x → start_picture.Post κs args s y → (r ≡ s) × (x.1.0.now ≡ y.1.0.now)
 start_picture_sole κs args r s x y p q = (sole p.0 q.0, sole p.1 q.1)
 
 pub walk_sole : (κs : _) (args : _) (r s : Written) (x y : _) → walk.Post κs args r x → walk.Post κs args s y → (r ≡ s) × (x.0.now ≡ y.0.now)

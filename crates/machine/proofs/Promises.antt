@@ -31,9 +31,9 @@ use Rattle.machine.specs.declared.Cycled.TheVariants.{Ran, Stopped, Refused}
 use Rattle.machine.specs.declared.NextSum.{NextSum}
 use Rattle.machine.specs.declared.NextSum.TheVariants.{Sums}
 use Rattle.machine.proofs.Cycles.{address_fits}
-use Rattle.machine.proofs.cycle_in.Reads as cycle-in
+use Rattle.machine.proofs.cycle_in.Reads as cycle_in_reads
 use Rattle.machine.proofs.cycle.Reads as cycle
-use Rattle.machine.proofs.next_sum.Reads as next-sum
+use Rattle.machine.proofs.next_sum.Reads as next_sum
 
 -- what runs is answered so, and no other way
 ran_ran : (reading : Reading) (f : Fields) (main local : List ℕ) (s : State) → (t : State) × ((ran_of reading f main local s).answer ≡ Ran t)
@@ -225,11 +225,11 @@ module _ (fence : Fence) (reading : Reading) (store main local : List ℕ) (s t 
 
 -- ---- no second answer fits, nor a second storage. The promise names no correction, so the cycle by table is the cycle by rule
 
-pub cycle_in_sole : (κs : _) (args : _) (r q : Cycled) (x y : _) → cycle-in.Post κs args r x → cycle-in.Post κs args q y → outcome r x.1.1.1.0.now x.1.1.1.1.0.now ≡ outcome q y.1.1.1.0.now y.1.1.1.1.0.now
+pub cycle_in_sole : (κs : _) (args : _) (r q : Cycled) (x y : _) → cycle_in_reads.Post κs args r x → cycle_in_reads.Post κs args q y → outcome r x.1.1.1.0.now x.1.1.1.1.0.now ≡ outcome q y.1.1.1.0.now y.1.1.1.1.0.now
 cycle_in_sole κs args r q x y a b = sole a b
 
 pub cycle_sole : (κs : _) (args : _) (r q : Cycled) (x y : _) → cycle.Post κs args r x → cycle.Post κs args q y → outcome r x.1.1.0.now x.1.1.1.0.now ≡ outcome q y.1.1.0.now y.1.1.1.0.now
 cycle_sole κs args r q x y a b = sole a b
 
-pub next_sum_sole : (κs : _) (args : _) (r q : NextSum) (x y : _) → next-sum.Post κs args r x → next-sum.Post κs args q y → r ≡ q
+pub next_sum_sole : (κs : _) (args : _) (r q : NextSum) (x y : _) → next_sum.Post κs args r x → next_sum.Post κs args q y → r ≡ q
 next_sum_sole κs args r q x y a b = sole a b

@@ -27,26 +27,26 @@ use Rattle.session.proofs.Turns.{turn_stops, turn_refuses}
 use Rattle.channels.specs.Channels.{record_length, loaded}
 use Rattle.panel.specs.Answers.{RAN, coded, STOPPED, REFUSED, answered, Called, called, short, answer_cycle, cycled_by, call_by, cycle_call, turn_call, ran_by, run_call}
 use Rattle.panel.proofs.Calls.{by_record}
-use Rattle.panel.proofs.panel_take_apart.Reads as take-apart
+use Rattle.panel.proofs.panel_take_apart.Reads as take_apart
 use Rattle.panel.proofs.panel_pack.Reads as pack
 use Rattle.panel.proofs.panel_cycle.Reads as cycle
 use Rattle.panel.proofs.panel_run.Reads as run
 use Rattle.panel.proofs.panel_open.Reads as opens
 use Rattle.panel.proofs.panel_turn.Reads as turn
-use Rattle.panel.proofs.panel_add_decimal.Reads as add-decimal
-use Rattle.panel.proofs.panel_add_decimal_in.Reads as add-decimal-in
-use Rattle.panel.proofs.panel_add_signed.Reads as add-signed
-use Rattle.panel.proofs.panel_sub_signed.Reads as sub-signed
-use Rattle.panel.proofs.panel_read_deck.Reads as read-deck
-use Rattle.panel.proofs.panel_write_deck.Reads as write-deck
+use Rattle.panel.proofs.panel_add_decimal.Reads as add_decimal
+use Rattle.panel.proofs.panel_add_decimal_in.Reads as add_decimal_in
+use Rattle.panel.proofs.panel_add_signed.Reads as add_signed
+use Rattle.panel.proofs.panel_sub_signed.Reads as sub_signed
+use Rattle.panel.proofs.panel_read_deck.Reads as read_deck
+use Rattle.panel.proofs.panel_write_deck.Reads as write_deck
 use Rattle.panel.proofs.panel_trap.Reads as trap
-use Rattle.panel.proofs.panel_next_sum.Reads as next-sum
+use Rattle.panel.proofs.panel_next_sum.Reads as next_sum
 use Rattle.panel.proofs.panel_start.Reads as start
-use Rattle.panel.proofs.panel_start_signed.Reads as start-signed
+use Rattle.panel.proofs.panel_start_signed.Reads as start_signed
 use Rattle.panel.proofs.panel_shipped.Reads as shipped
-use Rattle.panel.proofs.panel_shipped_signed.Reads as shipped-signed
-use Rattle.panel.proofs.panel_read_signed.Reads as read-signed
-use Rattle.panel.proofs.panel_write_signed.Reads as write-signed
+use Rattle.panel.proofs.panel_shipped_signed.Reads as shipped_signed
+use Rattle.panel.proofs.panel_read_signed.Reads as read_signed
+use Rattle.panel.proofs.panel_write_signed.Reads as write_signed
 
 -- ---- "on a refusal changes no lent byte", nor does a stop
 
@@ -123,7 +123,7 @@ cycle_unlit reading store main local s =
 
 -- ---- no second answer fits, nor a second state of what is lent
 
-pub take_apart_sole : (κs : _) (args : _) (r q : ℕ) (x y : _) → take-apart.Post κs args r x → take-apart.Post κs args q y → answered r x.1.1.0.now ≡ answered q y.1.1.0.now
+pub take_apart_sole : (κs : _) (args : _) (r q : ℕ) (x y : _) → take_apart.Post κs args r x → take_apart.Post κs args q y → answered r x.1.1.0.now ≡ answered q y.1.1.0.now
 take_apart_sole κs args r q x y a b = sole a b
 
 pub pack_sole : (κs : _) (args : _) (r q : ℕ) (x y : _) → pack.Post κs args r x → pack.Post κs args q y → answered r x.1.1.0.now ≡ answered q y.1.1.0.now
@@ -144,44 +144,44 @@ pub run_sole : (κs : _) (args : _) (r q : ℕ) (x y : _) → run.Post κs args 
     → called r x.1.1.0.now x.1.1.1.0.now x.1.1.1.1.0.now ≡ called q y.1.1.0.now y.1.1.1.0.now y.1.1.1.1.0.now
 run_sole κs args r q x y a b = sole a b
 
-pub add_decimal_sole : (κs : _) (args : _) (r q : ℕ) (x y : _) → add-decimal.Post κs args r x → add-decimal.Post κs args q y → outcome r x.0.now x.1.0.now ≡ outcome q y.0.now y.1.0.now
+pub add_decimal_sole : (κs : _) (args : _) (r q : ℕ) (x y : _) → add_decimal.Post κs args r x → add_decimal.Post κs args q y → outcome r x.0.now x.1.0.now ≡ outcome q y.0.now y.1.0.now
 add_decimal_sole κs args r q x y a b = sole a b
 
-pub add_decimal_in_sole : (κs : _) (args : _) (r q : ℕ) (x y : _) → add-decimal-in.Post κs args r x → add-decimal-in.Post κs args q y → outcome r x.0.now x.1.0.now ≡ outcome q y.0.now y.1.0.now
+pub add_decimal_in_sole : (κs : _) (args : _) (r q : ℕ) (x y : _) → add_decimal_in.Post κs args r x → add_decimal_in.Post κs args q y → outcome r x.0.now x.1.0.now ≡ outcome q y.0.now y.1.0.now
 add_decimal_in_sole κs args r q x y a b = sole a b
 
-pub add_signed_sole : (κs : _) (args : _) (r q : ℕ) (x y : _) → add-signed.Post κs args r x → add-signed.Post κs args q y → outcome r x.0.now x.1.0.now ≡ outcome q y.0.now y.1.0.now
+pub add_signed_sole : (κs : _) (args : _) (r q : ℕ) (x y : _) → add_signed.Post κs args r x → add_signed.Post κs args q y → outcome r x.0.now x.1.0.now ≡ outcome q y.0.now y.1.0.now
 add_signed_sole κs args r q x y a b = sole a b
 
-pub sub_signed_sole : (κs : _) (args : _) (r q : ℕ) (x y : _) → sub-signed.Post κs args r x → sub-signed.Post κs args q y → outcome r x.0.now x.1.0.now ≡ outcome q y.0.now y.1.0.now
+pub sub_signed_sole : (κs : _) (args : _) (r q : ℕ) (x y : _) → sub_signed.Post κs args r x → sub_signed.Post κs args q y → outcome r x.0.now x.1.0.now ≡ outcome q y.0.now y.1.0.now
 sub_signed_sole κs args r q x y a b = sole a b
 
-pub read_deck_sole : (κs : _) (args : _) (r q : ℕ) (x y : _) → read-deck.Post κs args r x → read-deck.Post κs args q y → answered r x.1.0.now ≡ answered q y.1.0.now
+pub read_deck_sole : (κs : _) (args : _) (r q : ℕ) (x y : _) → read_deck.Post κs args r x → read_deck.Post κs args q y → answered r x.1.0.now ≡ answered q y.1.0.now
 read_deck_sole κs args r q x y a b = sole a b
 
-pub write_deck_sole : (κs : _) (args : _) (r q : ℕ) (x y : _) → write-deck.Post κs args r x → write-deck.Post κs args q y → answered r x.1.0.now ≡ answered q y.1.0.now
+pub write_deck_sole : (κs : _) (args : _) (r q : ℕ) (x y : _) → write_deck.Post κs args r x → write_deck.Post κs args q y → answered r x.1.0.now ≡ answered q y.1.0.now
 write_deck_sole κs args r q x y a b = sole a b
 
 pub trap_sole : (κs : _) (args : _) (r q : ℕ) (x y : _) → trap.Post κs args r x → trap.Post κs args q y → answered r x.1.0.now ≡ answered q y.1.0.now
 trap_sole κs args r q x y a b = sole a b
 
-pub next_sum_sole : (κs : _) (args : _) (r q : ℕ) (x y : _) → next-sum.Post κs args r x → next-sum.Post κs args q y → answered r x.1.1.0.now ≡ answered q y.1.1.0.now
+pub next_sum_sole : (κs : _) (args : _) (r q : ℕ) (x y : _) → next_sum.Post κs args r x → next_sum.Post κs args q y → answered r x.1.1.0.now ≡ answered q y.1.1.0.now
 next_sum_sole κs args r q x y a b = sole a b
 
 pub start_sole : (κs : _) (args : _) (r q : ℕ) (x y : _) → start.Post κs args r x → start.Post κs args q y → answered r x.1.1.1.1.0.now ≡ answered q y.1.1.1.1.0.now
 start_sole κs args r q x y a b = sole a b
 
-pub start_signed_sole : (κs : _) (args : _) (r q : ℕ) (x y : _) → start-signed.Post κs args r x → start-signed.Post κs args q y → answered r x.1.1.1.1.0.now ≡ answered q y.1.1.1.1.0.now
+pub start_signed_sole : (κs : _) (args : _) (r q : ℕ) (x y : _) → start_signed.Post κs args r x → start_signed.Post κs args q y → answered r x.1.1.1.1.0.now ≡ answered q y.1.1.1.1.0.now
 start_signed_sole κs args r q x y a b = sole a b
 
 pub shipped_sole : (κs : _) (args : _) (r q : ℕ) (x y : _) → shipped.Post κs args r x → shipped.Post κs args q y → answered r x.0.now ≡ answered q y.0.now
 shipped_sole κs args r q x y a b = sole a b
 
-pub shipped_signed_sole : (κs : _) (args : _) (r q : ℕ) (x y : _) → shipped-signed.Post κs args r x → shipped-signed.Post κs args q y → answered r x.0.now ≡ answered q y.0.now
+pub shipped_signed_sole : (κs : _) (args : _) (r q : ℕ) (x y : _) → shipped_signed.Post κs args r x → shipped_signed.Post κs args q y → answered r x.0.now ≡ answered q y.0.now
 shipped_signed_sole κs args r q x y a b = sole a b
 
-pub read_signed_sole : (κs : _) (args : _) (r q : ℕ) (x y : _) → read-signed.Post κs args r x → read-signed.Post κs args q y → answered r x.1.0.now ≡ answered q y.1.0.now
+pub read_signed_sole : (κs : _) (args : _) (r q : ℕ) (x y : _) → read_signed.Post κs args r x → read_signed.Post κs args q y → answered r x.1.0.now ≡ answered q y.1.0.now
 read_signed_sole κs args r q x y a b = sole a b
 
-pub write_signed_sole : (κs : _) (args : _) (r q : ℕ) (x y : _) → write-signed.Post κs args r x → write-signed.Post κs args q y → answered r x.1.0.now ≡ answered q y.1.0.now
+pub write_signed_sole : (κs : _) (args : _) (r q : ℕ) (x y : _) → write_signed.Post κs args r x → write_signed.Post κs args q y → answered r x.1.0.now ≡ answered q y.1.0.now
 write_signed_sole κs args r q x y a b = sole a b

@@ -21,7 +21,7 @@ use Rattle.session.specs.Boards.{own, session, turned_to}
 use Rattle.session.specs.declared.BothAfter.{BothAfter}
 use Rattle.session.proofs.open.Reads as opens
 use Rattle.session.proofs.turn.Reads as turn
-use Rattle.session.proofs.turn_of.Reads as turn-of
+use Rattle.session.proofs.turn_of.Reads as turn_of_reads
 use Rattle.session.proofs.add.Reads as add
 
 -- ---- exactly when
@@ -46,7 +46,7 @@ pub turn_sole : (κs : _) (args : _) (r q : Cycled) (x y : _) → turn.Post κs 
     → outcome r x.1.1.1.1.0.now x.1.1.1.1.1.0.now ≡ outcome q y.1.1.1.1.0.now y.1.1.1.1.1.0.now
 turn_sole κs args r q x y a b = sole a b
 
-pub turn_of_sole : (κs : _) (args : _) (r q : BothAfter) (x y : _) → turn-of.Post κs args r x → turn-of.Post κs args q y
+pub turn_of_sole : (κs : _) (args : _) (r q : BothAfter) (x y : _) → turn_of_reads.Post κs args r x → turn_of_reads.Post κs args q y
     → turned_to r.answer (session (own r.a x.1.1.1.1.1.1.0.now) (own r.b x.1.1.1.1.1.1.1.0.now) x.1.1.1.1.1.0.now)
     ≡ turned_to q.answer (session (own q.a y.1.1.1.1.1.1.0.now) (own q.b y.1.1.1.1.1.1.1.0.now) y.1.1.1.1.1.0.now)
 turn_of_sole κs args r q x y a b = sole a b

@@ -13,11 +13,11 @@ use Rattle.signed.specs.declared.ReadOut.TheVariants as R
 use Rattle.signed.specs.declared.Wrote.{Wrote}
 use Rattle.signed.specs.declared.Wrote.TheVariants as W
 use Rattle.signed.proofs.Trips.{reading_tells, writing_tells}
-use Rattle.signed.proofs.bad_place.Reads as bad-place
-use Rattle.signed.proofs.read_signed.Reads as read-signed
-use Rattle.signed.proofs.with_sign.Reads as with-sign
+use Rattle.signed.proofs.bad_place.Reads as bad_place
+use Rattle.signed.proofs.read_signed.Reads as read_signed_reads
+use Rattle.signed.proofs.with_sign.Reads as with_sign
 use Rattle.signed.proofs.size.Reads as size
-use Rattle.signed.proofs.write_signed.Reads as write-signed
+use Rattle.signed.proofs.write_signed.Reads as write_signed_reads
 
 -- 33, 25, 26
 pub read_exactly : (field : List ℕ) (n : ℕ) → (read_signed field ≡ R.Refused n) ↔ Given n (read_signed_checks field)
@@ -41,17 +41,17 @@ minus_zero = (refl, refl)
 
 -- ---- no second answer fits: two results that meet one contract at the same arguments are the same, with what stands in the field lent
 
-pub bad_place_sole : (κs : _) (args : _) (r s : ℕ) (x y : _) → bad-place.Post κs args r x → bad-place.Post κs args s y → r ≡ s
+pub bad_place_sole : (κs : _) (args : _) (r s : ℕ) (x y : _) → bad_place.Post κs args r x → bad_place.Post κs args s y → r ≡ s
 bad_place_sole κs args r s x y p q = sole p q
 
-pub read_signed_sole : (κs : _) (args : _) (r s : ReadOut) (x y : _) → read-signed.Post κs args r x → read-signed.Post κs args s y → r ≡ s
+pub read_signed_sole : (κs : _) (args : _) (r s : ReadOut) (x y : _) → read_signed_reads.Post κs args r x → read_signed_reads.Post κs args s y → r ≡ s
 read_signed_sole κs args r s x y p q = sole p q
 
-pub with_sign_sole : (κs : _) (args : _) (r s : ℤ) (x y : _) → with-sign.Post κs args r x → with-sign.Post κs args s y → r ≡ s
+pub with_sign_sole : (κs : _) (args : _) (r s : ℤ) (x y : _) → with_sign.Post κs args r x → with_sign.Post κs args s y → r ≡ s
 with_sign_sole κs args r s x y p q = sole p q
 
 pub size_sole : (κs : _) (args : _) (r s : ℕ) (x y : _) → size.Post κs args r x → size.Post κs args s y → r ≡ s
 size_sole κs args r s x y p q = sole p q
 
-pub write_signed_sole : (κs : _) (args : _) (r s : Wrote) (x y : _) → write-signed.Post κs args r x → write-signed.Post κs args s y → (r ≡ s) × (x.1.0.now ≡ y.1.0.now)
+pub write_signed_sole : (κs : _) (args : _) (r s : Wrote) (x y : _) → write_signed_reads.Post κs args r x → write_signed_reads.Post κs args s y → (r ≡ s) × (x.1.0.now ≡ y.1.0.now)
 write_signed_sole κs args r s x y p q = (sole p.0 q.0, sole p.1 q.1)

@@ -3,11 +3,11 @@ use mathlib.Core.Path.{◌≡◌}
 use mathlib.Core.Bool.{Bool}
 use Rattle.digits.proofs.Sole.{sole}
 use Rattle.storage.specs.declared.Access.{Access}
-use Rattle.storage.proofs.access_of.Reads as Access-of
-use Rattle.storage.proofs.is_outside.Reads as is-outside
+use Rattle.storage.proofs.access_of.Reads as access_of
+use Rattle.storage.proofs.is_outside.Reads as is_outside
 
-pub access_of_sole : (κs : _) (args : _) (r q : Access) (x y : _) → Access-of.Post κs args r x → Access-of.Post κs args q y → r ≡ q
+pub access_of_sole : (κs : _) (args : _) (r q : Access) (x y : _) → access_of.Post κs args r x → access_of.Post κs args q y → r ≡ q
 access_of_sole κs args r q x y a b = sole a b
 
-pub is_outside_sole : (κs : _) (args : _) (r q : Bool) (x y : _) → is-outside.Post κs args r x → is-outside.Post κs args q y → r ≡ q
+pub is_outside_sole : (κs : _) (args : _) (r q : Bool) (x y : _) → is_outside.Post κs args r x → is_outside.Post κs args q y → r ≡ q
 is_outside_sole κs args r q x y a b = sole a b

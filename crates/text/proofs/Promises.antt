@@ -14,13 +14,13 @@ use Rattle.digits.specs.Lent.{over}
 use Rattle.text.specs.Text.{text_checks, put_of, room_after}
 use Rattle.text.specs.declared.Written.{Written}
 use Rattle.text.specs.declared.Written.TheVariants as W
-use Rattle.text.proofs.put_hexadecimal.Reads as put-hexadecimal
-use Rattle.text.proofs.put_spaces.Reads as put-spaces
-use Rattle.text.proofs.three_digits.Reads as three_digits_lem
-use Rattle.text.proofs.zeros_in_front.Reads as zeros-in-front
-use Rattle.text.proofs.put_decimal.Reads as put-decimal
+use Rattle.text.proofs.put_hexadecimal.Reads as put_hexadecimal
+use Rattle.text.proofs.put_spaces.Reads as put_spaces
+use Rattle.text.proofs.three_digits.Reads as three_digits
+use Rattle.text.proofs.zeros_in_front.Reads as zeros_in_front
+use Rattle.text.proofs.put_decimal.Reads as put_decimal
 use Rattle.text.proofs.put.Reads as put
-use Rattle.text.proofs.put_digits.Reads as put-digits
+use Rattle.text.proofs.put_digits.Reads as put_digits
 use Rattle.text.proofs.put_both.Reads as put_both
 use Rattle.text.proofs.refusals.words.Reads as words
 
@@ -48,25 +48,25 @@ put_inside text room n e =
 
 -- ---- no second answer fits: two results that meet one contract at the same arguments are the same, with what stands in the room lent
 
-pub put_hexadecimal_sole : (κs : _) (args : _) (r s : _) (x y : _) → put-hexadecimal.Post κs args r x → put-hexadecimal.Post κs args s y → x.1.0.now ≡ y.1.0.now
+pub put_hexadecimal_sole : (κs : _) (args : _) (r s : _) (x y : _) → put_hexadecimal.Post κs args r x → put_hexadecimal.Post κs args s y → x.1.0.now ≡ y.1.0.now
 put_hexadecimal_sole κs args r s x y p q = sole p q
 
-pub put_spaces_sole : (κs : _) (args : _) (r s : _) (x y : _) → put-spaces.Post κs args r x → put-spaces.Post κs args s y → x.0.now ≡ y.0.now
+pub put_spaces_sole : (κs : _) (args : _) (r s : _) (x y : _) → put_spaces.Post κs args r x → put_spaces.Post κs args s y → x.0.now ≡ y.0.now
 put_spaces_sole κs args r s x y p q = sole p q
 
-pub three_digits_sole : (κs : _) (args : _) (r s : List ℕ) (x y : _) → three_digits_lem.Post κs args r x → three_digits_lem.Post κs args s y → r ≡ s
+pub three_digits_sole : (κs : _) (args : _) (r s : List ℕ) (x y : _) → three_digits.Post κs args r x → three_digits.Post κs args s y → r ≡ s
 three_digits_sole κs args r s x y p q = sole p q
 
-pub zeros_in_front_sole : (κs : _) (args : _) (r s : ℕ) (x y : _) → zeros-in-front.Post κs args r x → zeros-in-front.Post κs args s y → r ≡ s
+pub zeros_in_front_sole : (κs : _) (args : _) (r s : ℕ) (x y : _) → zeros_in_front.Post κs args r x → zeros_in_front.Post κs args s y → r ≡ s
 zeros_in_front_sole κs args r s x y p q = sole p.0 q.0
 
-pub put_decimal_sole : (κs : _) (args : _) (r s : _) (x y : _) → put-decimal.Post κs args r x → put-decimal.Post κs args s y → x.1.0.now ≡ y.1.0.now
+pub put_decimal_sole : (κs : _) (args : _) (r s : _) (x y : _) → put_decimal.Post κs args r x → put_decimal.Post κs args s y → x.1.0.now ≡ y.1.0.now
 put_decimal_sole κs args r s x y p q = sole p q
 
 pub put_sole : (κs : _) (args : _) (r s : Written) (x y : _) → put.Post κs args r x → put.Post κs args s y → (r ≡ s) × (x.1.0.now ≡ y.1.0.now)
 put_sole κs args r s x y p q = (sole p.0 q.0, sole p.1 q.1)
 
-pub put_digits_sole : (κs : _) (args : _) (r s : Written) (x y : _) → put-digits.Post κs args r x → put-digits.Post κs args s y → (r ≡ s) × (x.1.0.now ≡ y.1.0.now)
+pub put_digits_sole : (κs : _) (args : _) (r s : Written) (x y : _) → put_digits.Post κs args r x → put_digits.Post κs args s y → (r ≡ s) × (x.1.0.now ≡ y.1.0.now)
 put_digits_sole κs args r s x y p q = (sole p.0 q.0, sole p.1 q.1)
 
 pub put_both_sole : (κs : _) (args : _) (r s : Written) (x y : _) → put_both.Post κs args r x → put_both.Post κs args s y → (r ≡ s) × (x.1.1.0.now ≡ y.1.1.0.now)

@@ -9,7 +9,7 @@ use lib.Dec.{eqb}
 use Rattle.digits.specs.Line.{ones_of}
 use Rattle.digits.specs.Table.{among}
 use Rattle.digits.proofs.Lines.{ones_mask}
-use Rattle.word.specs.Layout.{widths, line_of, PN, PA, CA, AA, CK, ParamKind, PS, PC}
+use Rattle.word.specs.Layout.{widths, line_of, PN, PA, CA, AA, CK, PK, PS, PC}
 use Rattle.word.specs.Parity.{values, covered, pn_covers, ps_covers, pc_covers}
 
 -- for each place from the given one on, whether it is among some places
@@ -35,8 +35,8 @@ ps_under w = ones_mask widths (marks (ps_covers ++ (PS ∷ []))) w
 pub pc_under : (w : ℕ) → ones (bit_and w 0xF_FFFF) ≡ ones_of (covered pc_covers PC (line_of w))
 pc_under w = ones_mask widths (marks (pc_covers ++ (PC ∷ []))) w
 
-pub ca_under : (w : ℕ) → ones (bit_and w 0x3_E020_0000) ≡ ones_of (covered (CA ∷ AA ∷ []) ParamKind (line_of w))
-ca_under w = ones_mask widths (marks (CA ∷ AA ∷ ParamKind ∷ [])) w
+pub ca_under : (w : ℕ) → ones (bit_and w 0x3_E020_0000) ≡ ones_of (covered (CA ∷ AA ∷ []) PK (line_of w))
+ca_under w = ones_mask widths (marks (CA ∷ AA ∷ PK ∷ [])) w
 
-pub ck_under : (w : ℕ) → ones (bit_and w 0x7A0_0000) ≡ ones_of (covered (CK ∷ []) ParamKind (line_of w))
-ck_under w = ones_mask widths (marks (CK ∷ ParamKind ∷ [])) w
+pub ck_under : (w : ℕ) → ones (bit_and w 0x7A0_0000) ≡ ones_of (covered (CK ∷ []) PK (line_of w))
+ck_under w = ones_mask widths (marks (CK ∷ PK ∷ [])) w

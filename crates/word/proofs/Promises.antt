@@ -14,9 +14,9 @@ use Rattle.word.specs.declared.Apart.TheVariants as A
 use Rattle.word.specs.declared.Packed.{Packed}
 use Rattle.word.specs.declared.Packed.TheVariants as P
 use Rattle.word.proofs.Trips.{apart_tells, packed_tells}
-use Rattle.word.proofs.fields_of.Reads as fields-of
+use Rattle.word.proofs.fields_of.Reads as fields_of_reads
 use Rattle.word.proofs.fault.Reads as fault
-use Rattle.word.proofs.take_apart.Reads as take-apart
+use Rattle.word.proofs.take_apart.Reads as take_apart
 use Rattle.word.proofs.pack.Reads as pack
 
 -- 3 to 9, of `fault`
@@ -36,13 +36,13 @@ pack_exactly f a = exactly packed_tells (join widths (line_with f a)) (pack_chec
 
 -- ---- no second answer fits: two results that meet one contract at the same arguments are the same
 
-pub fields_sole : (κs : _) (args : _) (r s : Fields) (x y : _) → fields-of.Post κs args r x → fields-of.Post κs args s y → r ≡ s
+pub fields_sole : (κs : _) (args : _) (r s : Fields) (x y : _) → fields_of_reads.Post κs args r x → fields_of_reads.Post κs args s y → r ≡ s
 fields_sole κs args r s x y p q = sole p q
 
 pub fault_sole : (κs : _) (args : _) (r s : ℕ) (x y : _) → fault.Post κs args r x → fault.Post κs args s y → r ≡ s
 fault_sole κs args r s x y p q = sole p q
 
-pub apart_sole : (κs : _) (args : _) (r s : Apart) (x y : _) → take-apart.Post κs args r x → take-apart.Post κs args s y → r ≡ s
+pub apart_sole : (κs : _) (args : _) (r s : Apart) (x y : _) → take_apart.Post κs args r x → take_apart.Post κs args s y → r ≡ s
 apart_sole κs args r s x y p q = sole p q
 
 pub pack_sole : (κs : _) (args : _) (r s : Packed) (x y : _) → pack.Post κs args r x → pack.Post κs args s y → r ≡ s

@@ -18,7 +18,7 @@ widths =
     2 ∷  -- CB
     4 ∷  -- CK
     1 ∷  -- AK
-    1 ∷  -- ParamKind
+    1 ∷  -- PK
     1 ∷  -- PS
     4 ∷  -- CD
     3 ∷  -- CF
@@ -67,8 +67,8 @@ CK = 11
 abbrev pub AK : ℕ
 AK = 12
 
-abbrev pub ParamKind : ℕ
-ParamKind = 13
+abbrev pub PK : ℕ
+PK = 13
 
 abbrev pub PS : ℕ
 PS = 14
@@ -119,7 +119,7 @@ named l =
       cb = field l CB;
       ck = field l CK;
       ak = field l AK;
-      pk = field l ParamKind;
+      pk = field l PK;
       cd = field l CD;
       cf = field l CF;
       cg = field l CG;

@@ -1,7 +1,7 @@
 -- "Parity is odd: the named bits and the parity bit together have an odd number of ones." Assumes nothing.
 use Rattle.std.specs.Prelude.{ℕ, ◌-◌, ◌%◌, ◌^◌, List, [], ◌∷◌, map, ◌++◌, Bool, ◌&&◌, ◌||◌, eqb, ltb}
 use Rattle.digits.specs.Line.{ones_of}
-use Rattle.word.specs.Layout.{field, named, CN, PN, PA, CH, CL, CM, CU, CA, AA, CB, CK, ParamKind, PS, CD, CF, CG, CV, CC, CS, AS, PC}
+use Rattle.word.specs.Layout.{field, named, CN, PN, PA, CH, CL, CM, CU, CA, AA, CB, CK, PK, PS, CD, CF, CG, CV, CC, CS, AS, PC}
 use Rattle.word.specs.declared.Fields.{Fields}
 
 -- an even number of ones is wrong
@@ -20,9 +20,9 @@ values places line = map (field line) places
 abbrev pub pn_covers : List ℕ
 pn_covers = CN ∷ []
 
--- "PS covers PA, CH, CL, CM, CU, CA, CB, CK, ParamKind."
+-- "PS covers PA, CH, CL, CM, CU, CA, CB, CK, PK."
 abbrev pub ps_covers : List ℕ
-ps_covers = PA ∷ CH ∷ CL ∷ CM ∷ CU ∷ CA ∷ CB ∷ CK ∷ ParamKind ∷ []
+ps_covers = PA ∷ CH ∷ CL ∷ CM ∷ CU ∷ CA ∷ CB ∷ CK ∷ PK ∷ []
 
 -- "PC covers CD, CF, CG, CV, CC, CS, AS."
 abbrev pub pc_covers : List ℕ
@@ -60,6 +60,6 @@ k_to_w f = ltb f.cm 3 && eqb f.cu 2
 abbrev pub is_return : Fields → Bool
 is_return f = ltb f.cm 3 && eqb f.cu 3
 
--- "ParamKind covers CA and AA where CL = 2, and CK where the word sends K to W; elsewhere ParamKind is free."
+-- "PK covers CA and AA where CL = 2, and CK where the word sends K to W; elsewhere PK is free."
 abbrev pub pk_wrong : List ℕ → Bool
-pk_wrong l = ca_to_w (named l) && wrong (covered (CA ∷ AA ∷ []) ParamKind l) || k_to_w (named l) && wrong (covered (CK ∷ []) ParamKind l)
+pk_wrong l = ca_to_w (named l) && wrong (covered (CA ∷ AA ∷ []) PK l) || k_to_w (named l) && wrong (covered (CK ∷ []) PK l)
