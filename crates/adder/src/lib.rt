@@ -60,32 +60,22 @@ fn gated_a(cf: u8, a: u8) -> u8
     let low_up = low * 16;
     let high_up = high * 16;
     let crossed = low_up + high;
-    if cf < 8 {
-        [0, low, high_up, a, 0, high, low_up, crossed][cf as usize]
-    } else {
-        0
-    }
+    let gates = [0, low, high_up, a, 0, high, low_up, crossed];
+    gates.get(cf as usize).copied().unwrap_or(0)
 }
 
 fn gated_b(cg: u8, b: u8) -> u8
     ensures { result ≡ gated_b cg b }
 {
     let high_up = b / 16 * 16;
-    if cg < 4 {
-        [0, b % 16, high_up, b][cg as usize]
-    } else {
-        0
-    }
+    let gates = [0, b % 16, high_up, b];
+    gates.get(cg as usize).copied().unwrap_or(0)
 }
 
 fn is_complement(cv: u8, s0: bool) -> bool
     ensures { result ≡ is_complement cv s0 }
 {
-    if cv < 4 {
-        [false, true, s0, s0][cv as usize]
-    } else {
-        false
-    }
+    matches!((cv, s0), (1, _) | (2 | 3, true))
 }
 
 fn turned(complemented: bool, b: u8) -> u8
@@ -121,11 +111,11 @@ fn summed(decimal: bool, a: u8, b: u8, carry: u8) -> Uncorrected
     let low_digit = a % 16 + b % 16 + carry;
     let byte = (sum % 256) as u8;
     Uncorrected {
-        byte: byte,
+        byte,
         ac: 256 <= sum,
         one_bc: 128 <= low_seven,
         digit_carry: 16 <= low_digit,
-        decimal: decimal,
+        decimal,
     }
 }
 
@@ -133,7 +123,7 @@ fn uncarried(byte: u8) -> Uncorrected
     ensures { result ≡ uncarried byte }
 {
     Uncorrected {
-        byte: byte,
+        byte,
         ac: false,
         one_bc: false,
         digit_carry: false,
@@ -145,7 +135,7 @@ fn uncarried(byte: u8) -> Uncorrected
 fn is_decimal(cv: u8, cc: u8) -> bool
     ensures { result ≡ is_decimal cv cc }
 {
-    (cv == 3) & !((cc == 2) | ((cc == 3) | (cc == 7)))
+    cv == 3 && !matches!(cc, 2 | 3 | 7)
 }
 
 // A digit over 9 on either input, as gated.
@@ -165,11 +155,7 @@ fn entering_b(b: u8, c: Controls) -> u8
 fn carry_in(cc: u8, s3: bool) -> bool
     ensures { result ≡ carry_into cc s3 }
 {
-    if cc < 8 {
-        [false, true, false, false, false, true, s3, false][cc as usize]
-    } else {
-        false
-    }
+    matches!((cc, s3), (1 | 5, _) | (6, true))
 }
 
 // By CC. That 4 to 6 save the carry is the cycle's to do.
@@ -199,13 +185,13 @@ fn finished(invalid: bool, u: Uncorrected) -> Sum
 {
     let result = result(u);
     Sum {
-        result: result,
+        result,
         ac: u.ac,
         one_bc: u.one_bc,
         z0: result == 0,
         uncorrected: u.byte,
         digit_carry: u.digit_carry,
-        invalid: invalid,
+        invalid,
     }
 }
 
@@ -235,10 +221,10 @@ pub fn work_of(a: u8, b: u8, c: Controls) -> Work
     let corrected = correction::corrected(sum.digit_carry, sum.ac, sum.byte);
     Work {
         a_chosen: a,
-        a_gated: a_gated,
+        a_gated,
         b_chosen: b,
-        b_gated: b_gated,
-        b_entering: b_entering,
+        b_gated,
+        b_entering,
         carry_in: carry,
         before: sum.byte,
         after: digits::first_of(sum.decimal, corrected, sum.byte),

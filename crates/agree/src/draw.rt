@@ -1,6 +1,7 @@
 // Words drawn from the generator's numbers: most are modelled and run, some are damaged or refused.
+use crate::Going;
 use codes::Reading;
-use word::{Fields, Packed};
+use word::Fields;
 
 // The codes of a field that are modelled in basic, some of them more than once.
 const CH: [u8; 16] = [0, 1, 2, 3, 6, 7, 8, 9, 10, 11, 12, 13, 14, 15, 0, 1];
@@ -17,6 +18,7 @@ const CF: [u8; 16] = [0, 1, 2, 3, 5, 6, 7, 3, 3, 3, 3, 3, 5, 6, 7, 3];
 
 const CS: [u8; 16] = [0, 1, 2, 3, 4, 6, 7, 8, 9, 10, 11, 12, 13, 0, 3, 9];
 
+// One of sixteen. One of any number would ask of its callers that there is one, and no public function asks anything.
 fn pick(codes: [u8; 16], x: u64) -> u8 {
     codes[(x % 16) as usize]
 }
@@ -37,23 +39,23 @@ fn drawn_cu(cl: u8, cm: u8, x: u64) -> u8 {
 
 // The bit that makes a number of ones odd.
 fn odd_bit(ones: u32) -> u8 {
-    if ones % 2 == 0 { 1 } else { 0 }
+    u8::from(ones % 2 == 0)
 }
 
 // PK, right where it covers something, and as it is elsewhere.
-fn right_pk(cl: u8, cm: u8, cu: u8, ca: u8, aa: u8, ck: u8, pk: u8) -> u8 {
-    if cl == 2 {
-        return odd_bit(u32::count_ones(ca as u32) ^ u32::count_ones(aa as u32));
+fn right_pk(f: Fields) -> u8 {
+    if f.cl == 2 {
+        return odd_bit(f.ca.count_ones() ^ f.aa.count_ones());
     }
-    if (cm < 3) & (cu == 2) {
-        return odd_bit(u32::count_ones(ck as u32));
+    if f.cm < 3 && f.cu == 2 {
+        return odd_bit(f.ck.count_ones());
     }
-    pk
+    f.pk
 }
 
 pub fn with_right_pk(f: Fields) -> Fields {
     Fields {
-        pk: right_pk(f.cl, f.cm, f.cu, f.ca, f.aa, f.ck, f.pk),
+        pk: right_pk(f),
         ..f
     }
 }
@@ -67,7 +69,7 @@ pub fn reading_of(x: u64) -> Reading {
     }
 }
 
-// Which of the seven codes a word is to have: in compatibility each in one word of 16 that it is modelled in, in basic none by this.
+// Which of the seven codes a word is to have, by the numbers that tests/second draws: in compatibility each in one word of 16 that it is modelled in, in basic none by this.
 fn wanted(reading: Reading, a: u64) -> u64 {
     match reading {
         Reading::Basic => 0,
@@ -80,12 +82,10 @@ fn drawn_ch(reading: Reading, seven: u64, ch: u8) -> u8 {
     if seven == 1 {
         return 8;
     }
-    if let Reading::Compatibility = reading {
-        if ch == 3 {
-            return 2;
-        }
+    match (reading, ch) {
+        (Reading::Compatibility, 3) => 2,
+        _ => ch,
     }
-    ch
 }
 
 fn drawn_cl(seven: u64, cl: u8) -> u8 {
@@ -118,10 +118,10 @@ pub fn modelled(reading: Reading, a: u64, b: u64) -> Fields {
     with_right_pk(Fields {
         cn: (a % 64) as u8,
         ch: drawn_ch(reading, seven, pick(CH, a / 0x100)),
-        cl: cl,
-        cm: cm,
+        cl,
+        cm,
         cu: drawn_cu(cl, cm, a / 0x10_0000),
-        ca: ca,
+        ca,
         aa: 0,
         cb: (a / 0x1000_0000 % 4) as u8,
         ck: (a / 0x1_0000_0000 % 16) as u8,
@@ -211,8 +211,8 @@ fn to_w(f: Fields) -> Fields {
 // The word of the fields, or the number that refuses them, which is no good word.
 pub fn packed(f: Fields, address: u32) -> u64 {
     match word::pack(f, address) {
-        Packed::Word(word) => word,
-        Packed::Refused(number) => number as u64,
+        Ok(word) => word,
+        Err(refusal) => u64::from(refusal.number()),
     }
 }
 
@@ -228,39 +228,19 @@ fn twice(x: u64) -> u64 {
 // A word for the address, which by 64 kinds of `x` is modelled under the reading, has one of the seven codes, one field of any code, has all of any code, is
 // damaged in one bit, stands at another address, sends CA to W beside K or a return, has PK turned, or is any 55 bits.
 pub fn word_for(reading: Reading, a: u64, b: u64, x: u64, address: u32) -> u64 {
-    let kind = x % 64;
     let rest = x / 64;
-    if kind < 44 {
-        return packed(modelled(reading, a, b), address);
+    let f = modelled(reading, a, b);
+    match x % 64 {
+        0..44 => packed(f, address),
+        44..47 => packed(with_right_pk(with_code(f, rest % 7)), address),
+        47..50 => packed(with_right_pk(replaced(f, rest % 11, rest / 16)), address),
+        50..54 => packed(raw(a, b), address),
+        54..60 => packed(f, address) ^ (1u64 << (rest % 64)),
+        60 => packed(f, (rest % 4096) as u32),
+        61 => packed(to_w(f), address) ^ twice(rest),
+        62 => packed(f, address) ^ 0x30_0000,
+        _ => a / 512,
     }
-    if kind < 47 {
-        return packed(
-            with_right_pk(with_code(modelled(reading, a, b), rest % 7)),
-            address,
-        );
-    }
-    if kind < 50 {
-        return packed(
-            with_right_pk(replaced(modelled(reading, a, b), rest % 11, rest / 16)),
-            address,
-        );
-    }
-    if kind < 54 {
-        return packed(raw(a, b), address);
-    }
-    if kind < 60 {
-        return packed(modelled(reading, a, b), address) ^ (1u64 << (rest % 64));
-    }
-    if kind < 61 {
-        return packed(modelled(reading, a, b), (rest % 4096) as u32);
-    }
-    if kind < 62 {
-        return packed(to_w(modelled(reading, a, b)), address) ^ twice(rest);
-    }
-    if kind < 63 {
-        return packed(modelled(reading, a, b), address) ^ 0x30_0000;
-    }
-    a / 512
 }
 
 // Of 256 words how many are of any kind, as many again being stops.
@@ -288,14 +268,12 @@ fn store_word(reading: Reading, a: u64, b: u64, x: u64, rate: u64, address: u32)
     packed(f, address)
 }
 
-// Words in all of the store; the generator's last number is the answer.
-pub fn fill_store(reading: Reading, x: u64, rate: u64, store: &mut [u64]) -> u64 {
-    let mut x = x;
-    for k in 0..store.len() {
-        let a = crate::next(x);
-        let b = crate::next(a);
-        x = crate::next(b);
-        store[k] = store_word(reading, a, b, x, rate, (k % 4096) as u32);
+// Words in all of the store.
+pub fn fill_store(g: &mut Going, reading: Reading, rate: u64, store: &mut [u64]) {
+    for (k, word) in store.iter_mut().enumerate() {
+        let a = g.draw();
+        let b = g.draw();
+        let x = g.draw();
+        *word = store_word(reading, a, b, x, rate, (k % 4096) as u32);
     }
-    x
 }

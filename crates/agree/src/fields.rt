@@ -1,5 +1,4 @@
 // Two fields in storage: the ends of storage, one field twice, and each refusal.
-use crate::{at_most, less, mix_bytes};
 
 // How much storage is lent, the two starts, the length, and the carry in or whether to subtract.
 #[derive(Clone, Copy)]
@@ -19,8 +18,8 @@ pub fn two_digits(x: u64) -> u8 {
 
 // Puts a byte where storage has that place.
 pub fn put_byte(bytes: &mut [u8], at: usize, byte: u8) {
-    if at < bytes.len() {
-        bytes[at] = byte;
+    if let Some(place) = bytes.get_mut(at) {
+        *place = byte;
     }
 }
 
@@ -33,7 +32,7 @@ fn main_size(x: u64) -> usize {
 fn field_start(main: usize, x: u64) -> usize {
     let place = (x / 4 % 34) as usize;
     if x % 4 == 0 {
-        return less(main, place);
+        return main.saturating_sub(place);
     }
     place
 }
@@ -47,25 +46,29 @@ fn drawn_length(x: u64) -> usize {
 
 // Sizes that are wrong in one of four ways, lengths and starts as large as numbers go, or one field twice.
 fn altered(which: u64, t: Trial) -> Trial {
-    let mut t = t;
     match which {
-        0 => t.main = 0,
-        1 => t.main = 65537,
-        2 => t.local = 255,
-        3 => t.local = 257,
-        4 => t.length = 0xFFFF_FFFF_FFFF_FFFF,
-        5 => t.first = 0xFFFF_FFFF_FFFF_FFFF,
-        6 => t.second = 0xFFFF_FFFF_FFFF_FFF8,
-        7 | 8 | 9 | 10 | 11 | 12 | 13 | 14 => t = same(t),
-        _ => (),
+        0 => Trial { main: 0, ..t },
+        1 => Trial { main: 65537, ..t },
+        2 => Trial { local: 255, ..t },
+        3 => Trial { local: 257, ..t },
+        4 => Trial {
+            length: usize::MAX,
+            ..t
+        },
+        5 => Trial {
+            first: usize::MAX,
+            ..t
+        },
+        6 => Trial {
+            second: usize::MAX - 7,
+            ..t
+        },
+        7..15 => Trial {
+            second: t.first,
+            ..t
+        },
+        _ => t,
     }
-    t
-}
-
-// The second field is the first.
-fn same(t: Trial) -> Trial {
-    let first = t.first;
-    Trial { second: first, ..t }
 }
 
 pub fn drawn_fields(a: u64, b: u64) -> Trial {
@@ -73,7 +76,7 @@ pub fn drawn_fields(a: u64, b: u64) -> Trial {
     altered(
         a % 64,
         Trial {
-            main: main,
+            main,
             local: 256,
             first: field_start(main, b),
             second: field_start(main, b / 0x1_0000),
@@ -83,10 +86,8 @@ pub fn drawn_fields(a: u64, b: u64) -> Trial {
     )
 }
 
-// The digest after the first 300 bytes of main storage, its last 64, and local storage.
-pub fn mix_ends(digest: u64, main: &[u8], local: &[u8]) -> u64 {
-    let low = at_most(300, main.len());
-    let d = mix_bytes(digest, &main[0..low]);
-    let from = at_most(less(main.len(), 64), main.len());
-    mix_bytes(mix_bytes(d, &main[from..]), local)
+// The last 64 bytes of main storage.
+pub fn high(main: &mut [u8]) -> &mut [u8] {
+    let from = main.len().saturating_sub(64);
+    &mut main[from..]
 }

@@ -3,50 +3,42 @@
 #![tactic(auto)]
 
 use adder::{Controls, Sum};
-use agree::STDOUT_FILENO;
+use agree::{Going, STDOUT_FILENO};
 
 // All that the adder hands back, as one number.
 fn value(z: Sum) -> u64 {
-    let latches = digits::one(z.ac) as u64 * 16
-        + digits::one(z.one_bc) as u64 * 8
-        + digits::one(z.z0) as u64 * 4
-        + digits::one(z.digit_carry) as u64 * 2
-        + digits::one(z.invalid) as u64;
-    z.result as u64 * 65536 + z.uncorrected as u64 * 256 + latches
+    let latches = u8::from(z.ac) * 16
+        + u8::from(z.one_bc) * 8
+        + u8::from(z.z0) * 4
+        + u8::from(z.digit_carry) * 2
+        + u8::from(z.invalid);
+    u64::from(z.result) * 65536 + u64::from(z.uncorrected) * 256 + u64::from(latches)
 }
 
 // The digest after a case.
-fn summed(digest: u64, a: u8, b: u8, c: Controls) -> u64 {
-    agree::mix(digest, value(adder::add(a, b, c)))
+fn summed(g: &mut Going, a: u8, b: u8, c: Controls) {
+    g.mix(value(adder::add(a, b, c)));
 }
 
 // Case `k` of all pairs with either carry, whole bytes, the carry in from S3.
-fn pair(digest: u64, k: u32, cv: u8, s0: bool) -> u64 {
-    let c = Controls {
-        cf: 3,
-        cg: 3,
-        cv: cv,
-        cc: 6,
-        s0: s0,
-        s3: k % 2 == 1,
-    };
-    summed(digest, (k / 512 % 256) as u8, (k / 2 % 256) as u8, c)
+fn pair(g: &mut Going, k: u32, cv: u8, s0: bool) {
+    let c = controls(3, cv, s0, k % 2 == 1);
+    summed(g, (k / 512 % 256) as u8, (k / 2 % 256) as u8, c);
 }
 
 // All 2^17 of them, a digest for every 16,384.
 fn pairs(name: &[u8], cv: u8, s0: bool) {
     agree::print_name(name);
-    let mut digest: u64 = 1;
-    for k in 0..131072u32 {
-        digest = pair(digest, k, cv, s0);
-        if k % 16384 == 16383 {
-            agree::print_digest(k as u64 + 1, digest);
-        }
+    let mut g = Going { x: 0, digest: 1 };
+    for k in 0..131072 {
+        pair(&mut g, k, cv, s0);
+        g.print_every(16384, k + 1);
     }
 }
 
 // A drawn case: two bytes, and controls within their widths.
-fn gated(digest: u64, k: u32, x: u64) -> u64 {
+fn gated(g: &mut Going, k: u32) {
+    let x = g.draw();
     let c = Controls {
         cf: (k % 8) as u8,
         cg: (k / 8 % 4) as u8,
@@ -55,74 +47,60 @@ fn gated(digest: u64, k: u32, x: u64) -> u64 {
         s0: k / 1024 % 2 == 1,
         s3: k / 2048 % 2 == 1,
     };
-    summed(digest, (x / 256 % 256) as u8, (x / 65536 % 256) as u8, c)
+    summed(g, (x / 256 % 256) as u8, (x / 65536 % 256) as u8, c);
 }
 
 // Every gate and operation, on 64 drawn pairs each.
 fn gates() {
     agree::print_name(b"gates and operations");
-    let mut digest: u64 = 2;
-    let mut x: u64 = 7;
-    for k in 0..262144u32 {
-        x = agree::next(x);
-        digest = gated(digest, k, x);
-        if k % 16384 == 16383 {
-            agree::print_digest(k as u64 + 1, digest);
-        }
+    let mut g = Going { x: 7, digest: 2 };
+    for k in 0..262144 {
+        gated(&mut g, k);
+        g.print_every(16384, k + 1);
     }
 }
 
 // A drawn case whose codes may be beyond their widths.
-fn wide(digest: u64, x: u64) -> u64 {
+fn wide(g: &mut Going) {
+    let x = g.draw();
+    let [b, a, flags, cc, cv, cg, cf, _] = x.to_be_bytes();
     let c = Controls {
-        cf: (x / 256 % 256) as u8,
-        cg: (x / 65536 % 256) as u8,
-        cv: (x / 0x100_0000 % 256) as u8,
-        cc: (x / 0x1_0000_0000 % 256) as u8,
-        s0: x / 0x100_0000_0000 % 2 == 1,
-        s3: x / 0x200_0000_0000 % 2 == 1,
+        cf,
+        cg,
+        cv,
+        cc,
+        s0: flags % 2 == 1,
+        s3: flags / 2 % 2 == 1,
     };
-    summed(
-        digest,
-        (x / 0x1_0000_0000_0000 % 256) as u8,
-        (x / 0x100_0000_0000_0000) as u8,
-        c,
-    )
+    summed(g, a, b, c);
 }
 
 fn beyond() {
     agree::print_name(b"codes of any size");
-    let mut digest: u64 = 3;
-    let mut x: u64 = 11;
-    for k in 0..32768u32 {
-        x = agree::next(x);
-        digest = wide(digest, x);
-        if k % 16384 == 16383 {
-            agree::print_digest(k as u64 + 1, digest);
-        }
+    let mut g = Going { x: 11, digest: 3 };
+    for k in 0..32768 {
+        wide(&mut g);
+        g.print_every(16384, k + 1);
     }
 }
 
 // The digest after a sum is corrected by the rule and by the table: 512 for the low digit's carry, and nine bits.
-fn corrected(digest: u64, k: u32) -> u64 {
+fn corrected(g: &mut Going, k: u32) {
     let low_carry = k / 512 % 2 == 1;
     let high_carry = k / 256 % 2 == 1;
     let byte = (k % 256) as u8;
-    let by_rule = agree::mix(digest, rule::corrected(low_carry, high_carry, byte) as u64);
-    agree::mix(
-        by_rule,
-        table::corrected(low_carry, high_carry, byte) as u64,
-    )
+    g.mix(u64::from(rule::corrected(low_carry, high_carry, byte)));
+    g.mix(u64::from(table::corrected(low_carry, high_carry, byte)));
 }
 
 // All 1,024 of them.
 fn corrections() {
     agree::print_name(b"corrections by rule and by table");
-    let mut digest: u64 = 6;
-    for k in 0..1024u32 {
-        digest = corrected(digest, k);
+    let mut g = Going { x: 0, digest: 6 };
+    for k in 0..1024 {
+        corrected(&mut g, k);
     }
-    agree::print_digest(1024, digest);
+    g.print(1024);
 }
 
 // A worked sum by its name: result, sum before correction, AC, 1BC, Z0, the digit carry and whether a digit is invalid.
@@ -137,10 +115,10 @@ fn controls(gate: u8, cv: u8, s0: bool, s3: bool) -> Controls {
     Controls {
         cf: gate,
         cg: gate,
-        cv: cv,
+        cv,
         cc: 6,
-        s0: s0,
-        s3: s3,
+        s0,
+        s3,
     }
 }
 

@@ -4,35 +4,28 @@
 
 ghost use Rattle.std.specs.Prelude.{◌≤◌};
 
-use agree::Trial;
+use agree::{Counts, Going, Trial};
 use decimal::Added;
 
-// The generator's last number, and the digest.
-#[derive(Clone, Copy)]
-struct Going {
-    x: u64,
-    digest: u64,
-}
+// No words are drawn.
+type Storages = agree::Storages<0, 65537, 257>;
+
+// Where a difference that was complemented again is counted.
+const AGAIN: usize = 3;
 
 // The six signs, C and D most often.
 const SIGNS: [u8; 8] = [12, 13, 12, 13, 10, 11, 14, 15];
 
 // Good digits in every byte: one time in eight all nines, in eight all zeros, in four one byte over and over.
-fn fill_digits(x: u64, style: u64, main: &mut [u8]) -> u64 {
-    let mut x = x;
-    for k in 0..main.len() {
-        x = agree::next(x);
-        main[k] = styled(style, x);
-    }
-    x
-}
-
-fn styled(style: u64, x: u64) -> u8 {
-    match style % 8 {
-        0 => 0x99,
-        1 => 0,
-        2 | 3 => agree::two_digits(style / 8),
-        _ => agree::two_digits(x / 256),
+fn fill_digits(g: &mut Going, style: u64, bytes: &mut [u8]) {
+    for byte in bytes {
+        let x = g.draw();
+        *byte = match style % 8 {
+            0 => 0x99,
+            1 => 0,
+            2 | 3 => agree::two_digits(style / 8),
+            _ => agree::two_digits(x / 256),
+        };
     }
 }
 
@@ -40,29 +33,19 @@ fn styled(style: u64, x: u64) -> u8 {
 fn last_place(length: usize) -> usize
     ensures { result ≤ 15 }
 {
-    agree::at_most(agree::less(length, 1), 15)
+    length.saturating_sub(1).min(15)
 }
 
 // A byte at a place of a field, the last one most often, where storage has that place.
 fn put_in(main: &mut [u8], start: usize, length: usize, x: u64, byte: u8) {
-    if start < main.len() {
-        let place = agree::at_most((x % 16) as usize, last_place(length));
-        agree::put_byte(main, start + place, byte);
-    }
-}
-
-// A byte's high digit and a sign.
-fn with_sign(byte: u8, x: u64) -> u8 {
-    byte / 16 * 16 + SIGNS[(x % 8) as usize] % 16
+    let place = last_place(length).min((x % 16) as usize);
+    agree::put_byte(main, start.saturating_add(place), byte);
 }
 
 // A sign at the last place of a field.
 fn put_sign(main: &mut [u8], start: usize, length: usize, x: u64) {
-    if start < main.len() {
-        let at = start + last_place(length);
-        if at < main.len() {
-            main[at] = with_sign(main[at], x);
-        }
+    if let Some(byte) = main.get_mut(start.saturating_add(last_place(length))) {
+        *byte = *byte / 16 * 16 + SIGNS[(x % 8) as usize] % 16;
     }
 }
 
@@ -88,103 +71,56 @@ fn lay_out(main: &mut [u8], t: Trial, e: u64) {
     spoil(main, t.second, t.length, e / 0x100_0000_0000);
 }
 
-// One more at 3 where a difference was complemented again, which is more than 14 cycles a byte and 16 more.
-fn tally_again(length: usize, count: u32, counts: &mut [u32]) {
-    if agree::at_most(length, 16) * 14 + 16 < count as usize {
-        agree::tally(counts, 3);
-    }
+// A difference was complemented again: more than 14 cycles a byte and 16 more.
+fn again(length: usize, count: u32) -> bool {
+    length.min(16) * 14 + 16 < count as usize
 }
 
-// The digest after an answer and its count of cycles. A refusal is counted at its number and 16 more, done at 0 with no
-// overflow and 1 with one, bad at 2.
-fn mix_added(digest: u64, length: usize, answer: Added, counts: &mut [u32]) -> u64 {
-    match answer {
-        Added::Summed(overflow, count) => {
-            let out = digits::one(overflow) as u64;
-            agree::tally(counts, out as usize);
-            tally_again(length, count, counts);
-            agree::mix(agree::mix(digest, out), count as u64)
-        }
-        Added::BadDigit(count) => {
-            agree::tally(counts, 2);
-            agree::mix(agree::mix(digest, 2), count as u64)
-        }
-        Added::Refused(number) => {
-            agree::tally(counts, number as usize + 16);
-            agree::mix(digest, number as u64 + 16)
-        }
-    }
-}
-
-fn lend(t: Trial, digest: u64, main: &mut [u8], local: &mut [u8], counts: &mut [u32]) -> u64 {
-    let m = agree::at_most(t.main, main.len());
-    let l = agree::at_most(t.local, local.len());
+// Both ends of main storage are drawn anew.
+fn case(g: &mut Going, s: &mut Storages, counts: &mut Counts) {
+    let a = g.draw();
+    let b = g.draw();
+    let c = g.draw();
+    let t = agree::drawn_fields(a, b);
+    fill_digits(g, c / 0x100, agree::part(&mut s.main, 300));
+    fill_digits(g, c / 0x1_0000_0000, agree::high(&mut s.main));
+    lay_out(&mut s.main, t, g.draw());
+    let lent = agree::part(&mut s.main, t.main);
     let answer = apsp::add(
-        &mut main[0..m],
-        &mut local[0..l],
+        lent,
+        agree::part(&mut s.local, t.local),
         t.first,
         t.second,
         t.length,
         t.on,
     );
-    mix_added(digest, t.length, answer, counts)
-}
-
-// The first 300 bytes of main storage are drawn anew.
-fn fill_low(x: u64, style: u64, main: &mut [u8]) -> u64 {
-    let low = agree::at_most(300, main.len());
-    fill_digits(x, style, &mut main[0..low])
-}
-
-// And the last 64.
-fn fill_high(x: u64, style: u64, main: &mut [u8]) -> u64 {
-    let from = agree::at_most(agree::less(main.len(), 64), main.len());
-    fill_digits(x, style, &mut main[from..])
-}
-
-fn case(g: Going, main: &mut [u8], local: &mut [u8], counts: &mut [u32]) -> Going {
-    let a = agree::next(g.x);
-    let b = agree::next(a);
-    let c = agree::next(b);
-    let t = agree::drawn_fields(a, b);
-    let x = fill_low(c, c / 0x100, main);
-    let x = fill_high(x, c / 0x1_0000_0000, main);
-    let e = agree::next(x);
-    lay_out(main, t, e);
-    let d = lend(t, g.digest, main, local, counts);
-    Going {
-        x: e,
-        digest: agree::mix_ends(d, main, local),
+    g.mix_added(answer, counts);
+    if let Added::Summed(_, count) = answer {
+        counts.tally_if(again(t.length, count), AGAIN);
     }
+    g.mix_ends(&s.main, &s.local);
 }
 
-fn cases(main: &mut [u8], local: &mut [u8], counts: &mut [u32]) {
-    let mut g = Going { x: 73, digest: 11 };
-    for k in 0..40000u32 {
-        g = case(g, main, local, counts);
-        if k % 4000 == 3999 {
-            agree::print_digest(k as u64 + 1, agree::mix_bytes(g.digest, main));
-        }
-    }
-}
-
-fn report(counts: &[u32]) {
-    agree::print_count(b"done", agree::counted(counts, 0));
-    agree::print_count(b"done with overflow", agree::counted(counts, 1));
-    agree::print_count(b"complemented again", agree::counted(counts, 3));
-    agree::print_count(b"bad", agree::counted(counts, 2));
-    agree::print_count(b"refused 1", agree::counted(counts, 17));
-    agree::print_count(b"refused 12", agree::counted(counts, 28));
-    agree::print_count(b"refused 13", agree::counted(counts, 29));
-    agree::print_count(b"refused 14", agree::counted(counts, 30));
+fn report(counts: &Counts) {
+    counts.print(b"done", 0);
+    counts.print(b"done with overflow", 1);
+    counts.print(b"complemented again", AGAIN);
+    counts.print(b"bad", 2);
+    counts.print(b"refused 1", 17);
+    counts.print(b"refused 12", 28);
+    counts.print(b"refused 13", 29);
+    counts.print(b"refused 14", 30);
 }
 
 fn main() {
-    let mut main = [0u8; 65537];
-    let mut local = [0u8; 257];
-    let mut counts = [0u32; 64];
-    agree::fill(79, &mut main);
-    agree::fill(83, &mut local);
-    cases(&mut main, &mut local, &mut counts);
+    let mut s = Storages::drawn(79, 83);
+    let mut counts = Counts::new();
+    let mut g = Going { x: 73, digest: 11 };
+    for k in 0..40000 {
+        case(&mut g, &mut s, &mut counts);
+        if k % 4000 == 3999 {
+            g.print_with(&s.main, k + 1);
+        }
+    }
     report(&counts);
 }

@@ -2,80 +2,41 @@
 // twice, the ends of storage and of a fence, and each refusal.
 #![tactic(auto)]
 
-use agree::Trial;
+use agree::{Counts, Going, Trial};
 use decimal::Added;
 use storage::Fence;
 
-// The generator's last number, and the digest.
-#[derive(Clone, Copy)]
-struct Going {
-    x: u64,
-    digest: u64,
-}
+// No words are drawn.
+type Storages = agree::Storages<0, 65537, 257>;
 
 // Good digits in every byte, which one time in four are all nines and one time in four all zeros.
-fn fill_digits(x: u64, style: u64, main: &mut [u8]) -> u64 {
-    let mut x = x;
-    for k in 0..main.len() {
-        x = agree::next(x);
-        main[k] = styled(style, x);
+fn fill_digits(g: &mut Going, style: u64, bytes: &mut [u8]) {
+    for byte in bytes {
+        let x = g.draw();
+        *byte = match style % 4 {
+            1 => 0x99,
+            2 => 0,
+            _ => agree::two_digits(x / 256),
+        };
     }
-    x
-}
-
-fn styled(style: u64, x: u64) -> u8 {
-    if style % 4 == 1 {
-        return 0x99;
-    }
-    if style % 4 == 2 {
-        return 0;
-    }
-    agree::two_digits(x / 256)
 }
 
 // A bad digit in one byte of storage, near the start of a field.
 fn spoil(main: &mut [u8], start: usize, x: u64) {
-    if start < main.len() {
-        let at = start + (x / 0x100 % 18) as usize;
-        agree::put_byte(main, at, (x / 0x1_0000 % 256) as u8);
-    }
-}
-
-// The digest after an answer and its storage. An answer is counted at its number, summed at 0 with no carry and 1 with
-// one, a bad digit at 2.
-fn mix_added(digest: u64, answer: Added, counts: &mut [u32]) -> u64 {
-    match answer {
-        Added::Summed(carry, count) => {
-            let out = digits::one(carry) as u64;
-            agree::tally(counts, out as usize);
-            agree::mix(agree::mix(digest, out), count as u64)
-        }
-        Added::BadDigit(count) => {
-            agree::tally(counts, 2);
-            agree::mix(agree::mix(digest, 2), count as u64)
-        }
-        Added::Refused(number) => {
-            agree::tally(counts, number as usize + 16);
-            agree::mix(digest, number as u64 + 16)
-        }
-    }
+    let at = start.saturating_add((x / 0x100 % 18) as usize);
+    agree::put_byte(main, at, (x / 0x1_0000 % 256) as u8);
 }
 
 // The sum, or the first of two that are as large as numbers go.
 fn plus(n: usize, m: usize) -> usize {
-    if n < 70000 {
-        if m < 70000 {
-            return n + m;
-        }
-    }
-    n
+    if n < 70000 && m < 70000 { n + m } else { n }
 }
 
 fn fence_start(low: usize, high: usize, y: u64) -> usize {
     match y % 8 {
         0 => low,
         1 => plus(low, 1),
-        2 => agree::less(low, 1),
+        2 => low.saturating_sub(1),
         3 => high,
         _ => 0,
     }
@@ -84,7 +45,7 @@ fn fence_start(low: usize, high: usize, y: u64) -> usize {
 fn fence_end(last: usize, main: usize, y: u64) -> usize {
     match y % 8 {
         0 => last,
-        1 => agree::less(last, 1),
+        1 => last.saturating_sub(1),
         2 => plus(last, 1),
         3 => plus(main, 1),
         _ => main,
@@ -93,24 +54,17 @@ fn fence_end(last: usize, main: usize, y: u64) -> usize {
 
 // A fence round both fields, or one byte narrower or wider, or up to an end of main storage.
 fn fence_for(t: Trial, y: u64) -> Fence {
-    let low = if t.first < t.second {
-        t.first
-    } else {
-        t.second
-    };
-    let high = if t.first < t.second {
-        t.second
-    } else {
-        t.first
-    };
+    let high = t.first.max(t.second);
     Fence {
-        start: fence_start(low, high, y),
+        start: fence_start(t.first.min(t.second), high, y),
         end: fence_end(plus(high, t.length), t.main, y / 8),
     }
 }
 
 // One add in two is in a fence.
-fn added(t: Trial, y: u64, main: &mut [u8], local: &mut [u8]) -> Added {
+fn added(t: Trial, y: u64, s: &mut Storages) -> Added {
+    let main = agree::part(&mut s.main, t.main);
+    let local = agree::part(&mut s.local, t.local);
     if y / 64 % 2 == 1 {
         let fence = fence_for(t, y);
         return session::add(fence, main, local, t.first, t.second, t.length, t.on);
@@ -118,87 +72,49 @@ fn added(t: Trial, y: u64, main: &mut [u8], local: &mut [u8]) -> Added {
     decimal::add(main, local, t.first, t.second, t.length, t.on)
 }
 
-fn lend(
-    t: Trial,
-    y: u64,
-    digest: u64,
-    main: &mut [u8],
-    local: &mut [u8],
-    counts: &mut [u32],
-) -> u64 {
-    let m = agree::at_most(t.main, main.len());
-    let l = agree::at_most(t.local, local.len());
-    let answer = added(t, y, &mut main[0..m], &mut local[0..l]);
-    mix_added(digest, answer, counts)
-}
-
-// The first 300 bytes of main storage are drawn anew.
-fn fill_low(x: u64, style: u64, main: &mut [u8]) -> u64 {
-    let low = agree::at_most(300, main.len());
-    fill_digits(x, style, &mut main[0..low])
-}
-
-// And the last 64.
-fn fill_high(x: u64, style: u64, main: &mut [u8]) -> u64 {
-    let from = agree::at_most(agree::less(main.len(), 64), main.len());
-    fill_digits(x, style, &mut main[from..])
-}
-
-fn case(g: Going, main: &mut [u8], local: &mut [u8], counts: &mut [u32]) -> Going {
-    let a = agree::next(g.x);
-    let b = agree::next(a);
-    let c = agree::next(b);
-    let y = agree::next(c);
-    let t = agree::drawn_fields(a, b);
-    let x = fill_low(y, c / 0x100, main);
-    let x = fill_high(x, c / 0x400, main);
-    spoil_some(main, t, c);
-    let d = lend(t, y, g.digest, main, local, counts);
-    Going {
-        x: x,
-        digest: agree::mix_ends(d, main, local),
-    }
-}
-
 // One time in four a digit of either field is bad.
 fn spoil_some(main: &mut [u8], t: Trial, c: u64) {
-    if c % 8 == 0 {
-        spoil(main, t.first, c / 8);
-        return;
-    }
-    if c % 8 != 1 {
-        return;
-    }
-    spoil(main, t.second, c / 8);
-}
-
-fn cases(main: &mut [u8], local: &mut [u8], counts: &mut [u32]) {
-    let mut g = Going { x: 53, digest: 9 };
-    for k in 0..40000u32 {
-        g = case(g, main, local, counts);
-        if k % 4000 == 3999 {
-            agree::print_digest(k as u64 + 1, agree::mix_bytes(g.digest, main));
-        }
+    match c % 8 {
+        0 => spoil(main, t.first, c / 8),
+        1 => spoil(main, t.second, c / 8),
+        _ => (),
     }
 }
 
-fn report(counts: &[u32]) {
-    agree::print_count(b"summed with no carry", agree::counted(counts, 0));
-    agree::print_count(b"summed with a carry", agree::counted(counts, 1));
-    agree::print_count(b"bad digit", agree::counted(counts, 2));
-    agree::print_count(b"refused 1", agree::counted(counts, 17));
-    agree::print_count(b"refused 12", agree::counted(counts, 28));
-    agree::print_count(b"refused 13", agree::counted(counts, 29));
-    agree::print_count(b"refused 14", agree::counted(counts, 30));
-    agree::print_count(b"refused 32", agree::counted(counts, 48));
+// Both ends of main storage are drawn anew.
+fn case(g: &mut Going, s: &mut Storages, counts: &mut Counts) {
+    let a = g.draw();
+    let b = g.draw();
+    let c = g.draw();
+    let y = g.draw();
+    let t = agree::drawn_fields(a, b);
+    fill_digits(g, c / 0x100, agree::part(&mut s.main, 300));
+    fill_digits(g, c / 0x400, agree::high(&mut s.main));
+    spoil_some(&mut s.main, t, c);
+    g.mix_added(added(t, y, s), counts);
+    g.mix_ends(&s.main, &s.local);
+}
+
+fn report(counts: &Counts) {
+    counts.print(b"summed with no carry", 0);
+    counts.print(b"summed with a carry", 1);
+    counts.print(b"bad digit", 2);
+    counts.print(b"refused 1", 17);
+    counts.print(b"refused 12", 28);
+    counts.print(b"refused 13", 29);
+    counts.print(b"refused 14", 30);
+    counts.print(b"refused 32", 48);
 }
 
 fn main() {
-    let mut main = [0u8; 65537];
-    let mut local = [0u8; 257];
-    let mut counts = [0u32; 64];
-    agree::fill(59, &mut main);
-    agree::fill(61, &mut local);
-    cases(&mut main, &mut local, &mut counts);
+    let mut s = Storages::drawn(59, 61);
+    let mut counts = Counts::new();
+    let mut g = Going { x: 53, digest: 9 };
+    for k in 0..40000 {
+        case(&mut g, &mut s, &mut counts);
+        if k % 4000 == 3999 {
+            g.print_with(&s.main, k + 1);
+        }
+    }
     report(&counts);
 }

@@ -2,14 +2,7 @@
 // in every place, and fields of other lengths.
 #![tactic(auto)]
 
-use signed::{ReadOut, Wrote};
-
-// The generator's last number, and the digest.
-#[derive(Clone, Copy)]
-struct Going {
-    x: u64,
-    digest: u64,
-}
+use agree::{Counts, Going};
 
 // 3, the powers of ten, and the greatest i64.
 const NEAR: [u64; 20] = [
@@ -38,7 +31,7 @@ const NEAR: [u64; 20] = [
 // A size at or just below one of these, or any.
 fn drawn_size(a: u64, b: u64) -> u64 {
     if b % 2 == 0 {
-        return std::num::wrapping_sub_u64(NEAR[(b / 2 % 20) as usize], a % 4);
+        return NEAR[(b / 2 % 20) as usize].wrapping_sub(a % 4);
     }
     a >> (b / 2 % 64)
 }
@@ -54,10 +47,7 @@ fn number(size: u64, minus: bool) -> i64 {
 
 // The size again.
 fn size_of(n: i64) -> u64 {
-    if n < 0 {
-        return !n as u64;
-    }
-    n as u64
+    (if n < 0 { !n } else { n }) as u64
 }
 
 // 8 bytes, or one time in 16 any length up to 20.
@@ -68,104 +58,75 @@ fn drawn_length(x: u64) -> usize {
     8
 }
 
-fn put(field: &mut [u8], at: usize, byte: u8) {
-    if at < field.len() {
-        field[at] = byte;
-    }
-}
-
 // One time in two a good digit and any sign in the eighth byte, then any byte in one of the twenty.
-fn spoil(field: &mut [u8], x: u64) {
-    put(
-        field,
-        (7 + x % 2 * 13) as usize,
-        (x / 2 % 10 * 16 + x / 32 % 16) as u8,
-    );
-    put(field, (x / 512 % 20) as usize, (x / 0x1_0000 % 256) as u8);
+fn spoil(field: &mut [u8; 20], x: u64) {
+    let last = (x / 2 % 10 * 16 + x / 32 % 16) as u8;
+    if x % 2 == 0 {
+        field[7] = last;
+    }
+    field[(x / 512 % 20) as usize] = (x / 0x1_0000 % 256) as u8;
 }
 
-// The digest after what writing answers, which is counted at its number, or at 0.
-fn mix_wrote(digest: u64, answer: Wrote, counts: &mut [u32]) -> u64 {
-    match answer {
-        Wrote::Written => {
-            agree::tally(counts, 0);
-            agree::mix(digest, 0)
+// A write to the first bytes of the field, counted at its refusal's number, or at 0; and all of the field after it.
+fn write(number: i64, length: usize, g: &mut Going, field: &mut [u8; 20], counts: &mut Counts) {
+    let answer = signed::write_signed(number, agree::part(field, length));
+    let number = agree::number_of(&answer);
+    counts.tally(usize::from(number));
+    g.mix(u64::from(number));
+    g.mix_bytes(field);
+}
+
+// Where what reading answers is counted: a refusal at its number and 64 more, or minus at 64 and plus at 65.
+const MINUS: u8 = 64;
+
+const PLUS: u8 = 65;
+
+fn read(length: usize, g: &mut Going, field: &[u8; 20], counts: &mut Counts) {
+    match signed::read_signed(&field[..length.min(20)]) {
+        Ok(n) => {
+            let which = if n < 0 { MINUS } else { PLUS };
+            counts.tally(usize::from(which));
+            g.mix(u64::from(which));
+            g.mix(size_of(n));
         }
-        Wrote::Refused(number) => {
-            agree::tally(counts, number as usize);
-            agree::mix(digest, number as u64)
+        Err(refusal) => {
+            counts.tally(64 + usize::from(refusal.number()));
+            g.mix(u64::from(refusal.number()));
         }
     }
+    g.mix_bytes(field);
 }
 
-// The digest after what reading answers, which is counted at its number and 64 more, or minus at 64 and plus at 65.
-fn mix_read(digest: u64, answer: ReadOut, counts: &mut [u32]) -> u64 {
-    match answer {
-        ReadOut::Number(n) => {
-            let which = if n < 0 { 64 } else { 65 };
-            agree::tally(counts, which);
-            agree::mix(agree::mix(digest, which as u64), size_of(n))
-        }
-        ReadOut::Refused(number) => {
-            agree::tally(counts, number as usize + 64);
-            agree::mix(digest, number as u64)
-        }
-    }
-}
-
-// A write to the first bytes of the field, and all of the field after it.
-fn write(number: i64, length: usize, digest: u64, field: &mut [u8], counts: &mut [u32]) -> u64 {
-    let e = agree::at_most(length, field.len());
-    let answer = signed::write_signed(number, &mut field[0..e]);
-    agree::mix_bytes(mix_wrote(digest, answer, counts), field)
-}
-
-// The same of a read.
-fn read(length: usize, digest: u64, field: &[u8], counts: &mut [u32]) -> u64 {
-    let e = agree::at_most(length, field.len());
-    let answer = signed::read_signed(&field[0..e]);
-    agree::mix_bytes(mix_read(digest, answer, counts), field)
-}
-
-fn case(g: Going, field: &mut [u8], counts: &mut [u32]) -> Going {
-    let a = agree::next(g.x);
-    let b = agree::next(a);
-    let c = agree::next(b);
+fn case(g: &mut Going, field: &mut [u8; 20], counts: &mut Counts) {
+    let a = g.draw();
+    let b = g.draw();
+    let c = g.draw();
     let length = drawn_length(c / 0x100_0000);
     let n = number(drawn_size(a, b / 2), b % 2 == 0);
-    let d = write(n, length, g.digest, field, counts);
+    write(n, length, g, field, counts);
     spoil(field, c);
-    Going {
-        x: c,
-        digest: read(length, d, field, counts),
-    }
+    read(length, g, field, counts);
 }
 
-fn cases(field: &mut [u8], counts: &mut [u32]) {
-    let mut g = Going { x: 67, digest: 10 };
-    for k in 0..20000u32 {
-        g = case(g, field, counts);
-        if k % 2000 == 1999 {
-            agree::print_digest(k as u64 + 1, g.digest);
-        }
-    }
-}
-
-fn report(counts: &[u32]) {
-    agree::print_count(b"written", agree::counted(counts, 0));
-    agree::print_count(b"write refused 27", agree::counted(counts, 27));
-    agree::print_count(b"write refused 33", agree::counted(counts, 33));
-    agree::print_count(b"read minus", agree::counted(counts, 64));
-    agree::print_count(b"read plus", agree::counted(counts, 65));
-    agree::print_count(b"read refused 25", agree::counted(counts, 89));
-    agree::print_count(b"read refused 26", agree::counted(counts, 90));
-    agree::print_count(b"read refused 33", agree::counted(counts, 97));
+fn report(counts: &Counts) {
+    counts.print(b"written", 0);
+    counts.print(b"write refused 27", 27);
+    counts.print(b"write refused 33", 33);
+    counts.print(b"read minus", 64);
+    counts.print(b"read plus", 65);
+    counts.print(b"read refused 25", 89);
+    counts.print(b"read refused 26", 90);
+    counts.print(b"read refused 33", 97);
 }
 
 fn main() {
     let mut field = [0u8; 20];
-    let mut counts = [0u32; 128];
-    agree::fill(71, &mut field);
-    cases(&mut field, &mut counts);
+    let mut counts = Counts::new();
+    Going { x: 71, digest: 0 }.fill(&mut field);
+    let mut g = Going { x: 67, digest: 10 };
+    for k in 0..20000 {
+        case(&mut g, &mut field, &mut counts);
+        g.print_every(2000, k + 1);
+    }
     report(&counts);
 }

@@ -1,39 +1,32 @@
 // Traps and returns against tests/second: calls alone, return words beside every CM, CH and CL, and runs that traps break into.
 #![tactic(auto)]
 
+use agree::{Answer, Counts, Going};
 use codes::Reading;
-use machine::{Cycled, State};
-use run::{Ending, Finished};
-use trap::Trapped;
+use machine::State;
+use run::Ending;
 use word::Fields;
 
-// The generator's last number, and the digest.
-#[derive(Clone, Copy)]
-struct Going {
-    x: u64,
-    digest: u64,
-}
+type Storages = agree::Storages<4096, 65536, 256>;
 
-fn state_of(t: Trapped) -> State {
-    match t {
-        Trapped::Taken(s) => s,
-        Trapped::Refused(s, _) => s,
+// Where an answer is counted that has no number of its own.
+const CLOSED: usize = 103;
+
+const CYCLES: usize = 104;
+
+// 0 for a trap that is taken, else its refusal's number; and the state after it.
+fn trapped(state: State, address: u32) -> (u8, State) {
+    match trap::trap(state, address) {
+        Ok(taken) => (0, taken),
+        Err(refusal) => (refusal.number(), state),
     }
 }
 
-// 0 for a trap that is taken.
-fn number_of(t: Trapped) -> u8 {
-    match t {
-        Trapped::Taken(_) => 0,
-        Trapped::Refused(_, number) => number,
-    }
-}
-
-// Where the calls are counted: taken at 0, a refusal at its number.
-fn report_traps(counts: &[u32]) {
-    agree::print_count(b"taken", agree::counted(counts, 0));
-    agree::print_count(b"refused 29", agree::counted(counts, 29));
-    agree::print_count(b"refused 30", agree::counted(counts, 30));
+// Taken at 0, a refusal at its number.
+fn report_traps(counts: &Counts) {
+    counts.print(b"taken", 0);
+    counts.print(b"refused 29", 29);
+    counts.print(b"refused 30", 30);
 }
 
 // The last address and the one past it, any number, one too high, or, one time in two, any that is taken.
@@ -49,160 +42,82 @@ fn drawn_address(x: u64) -> u32 {
 
 // ---- calls
 
-fn call(g: Going, counts: &mut [u32]) -> Going {
-    let c = agree::next(g.x);
-    let e = agree::next(c);
-    let f = agree::next(e);
+fn call(g: &mut Going, counts: &mut Counts) {
+    let c = g.draw();
+    let e = g.draw();
+    let f = g.draw();
     let state = agree::drawn_state(c, e, (f % 65536) as u16);
-    let answer = trap::trap(state, drawn_address(f / 65536));
-    let number = number_of(answer);
-    agree::tally(counts, number as usize);
-    let d = agree::mix(g.digest, number as u64);
-    Going {
-        x: f,
-        digest: agree::mix_state(d, state_of(answer)),
-    }
+    let (number, after) = trapped(state, drawn_address(f / 65536));
+    counts.tally(usize::from(number));
+    g.mix(u64::from(number));
+    g.mix_state(after);
 }
 
-fn calls(g: Going) -> Going {
-    let mut counts = [0u32; 128];
-    let mut g = g;
-    for k in 0..20000u32 {
-        g = call(g, &mut counts);
-        if k % 5000 == 4999 {
-            agree::print_digest(k as u64 + 1, g.digest);
-        }
+fn calls(g: &mut Going) {
+    let mut counts = Counts::new();
+    for k in 0..20000 {
+        call(g, &mut counts);
+        g.print_every(5000, k + 1);
     }
     report_traps(&counts);
-    g
 }
 
 // ---- return words
 
-fn put(store: &mut [u64], at: usize, word: u64) {
-    if at < store.len() {
-        store[at] = word;
-    }
-}
-
-fn after(c: Cycled) -> State {
-    match c {
-        Cycled::Ran(s) => s,
-        Cycled::Stopped(s) => s,
-        Cycled::Refused(s, _, _) => s,
-    }
-}
-
-fn answer_of(c: Cycled) -> u8 {
-    match c {
-        Cycled::Ran(_) => 100,
-        Cycled::Stopped(_) => 101,
-        Cycled::Refused(_, number, _) => number,
-    }
-}
-
-fn field_of(c: Cycled) -> u8 {
-    match c {
-        Cycled::Ran(_) => 0,
-        Cycled::Stopped(_) => 0,
-        Cycled::Refused(_, _, field) => field,
-    }
-}
-
 // A return word of these codes. Where CL = 2 packing would refuse it, so CU is turned afterwards.
 fn return_word(f: Fields, cm: u8, ch: u8, cl: u8, address: u32) -> u64 {
-    if cl == 2 {
-        let to_w = agree::with_right_pk(Fields {
-            cm: cm,
-            ch: ch,
-            cl: 2,
-            cu: 0,
-            ..f
-        });
-        return agree::packed(to_w, address) ^ 0xC_0000_0000;
-    }
+    let (cu, turned) = if cl == 2 { (0, 0xC_0000_0000) } else { (3, 0) };
     let back = agree::with_right_pk(Fields {
-        cm: cm,
-        ch: ch,
-        cl: cl,
-        cu: 3,
+        cm,
+        ch,
+        cl,
+        cu,
         ..f
     });
-    agree::packed(back, address)
-}
-
-fn cycled(g: Going, c: Cycled, counts: &mut [u32]) -> Going {
-    let number = answer_of(c);
-    agree::tally(counts, number as usize);
-    let d = agree::mix(g.digest, number as u64 * 256 + field_of(c) as u64);
-    Going {
-        x: g.x,
-        digest: agree::mix_state(d, after(c)),
-    }
+    agree::packed(back, address) ^ turned
 }
 
 // The word of CM, CH, CL and the latch that `k` counts through, the latch fastest, and the reading slowest.
-fn return_case(
-    g: Going,
-    k: u32,
-    store: &mut [u64],
-    main: &mut [u8],
-    local: &mut [u8],
-    counts: &mut [u32],
-) -> Going {
-    let a = agree::next(g.x);
-    let b = agree::next(a);
-    let c = agree::next(b);
-    let e = agree::next(c);
-    let f = agree::next(e);
-    let wx = (f % 4096) as u16;
+fn return_case(g: &mut Going, k: u32, s: &mut Storages, counts: &mut Counts) {
+    let a = g.draw();
+    let b = g.draw();
+    let c = g.draw();
+    let e = g.draw();
+    let wx = (g.draw() % 4096) as u16;
     let cm = (k / 512 % 3) as u8;
     let ch = (k / 32 % 16) as u8;
     let cl = (k / 2 % 16) as u8;
-    let reading = agree::reading_of((k / 1536) as u64);
-    let word = return_word(agree::modelled(reading, a, b), cm, ch, cl, wx as u32);
-    put(store, wx as usize, word);
+    let reading = agree::reading_of(u64::from(k / 1536));
+    let f = agree::modelled(reading, a, b);
+    s.put(wx, return_word(f, cm, ch, cl, u32::from(wx)));
     let state = State {
         owed: k % 2 == 1,
         ..agree::drawn_state(c, e, wx)
     };
-    let answer = machine::cycle(reading, store, main, local, state);
-    cycled(
-        Going {
-            x: f,
-            digest: g.digest,
-        },
-        answer,
-        counts,
-    )
+    let cycled = machine::cycle(reading, &s.store, &mut s.main, &mut s.local, state);
+    let answer = Answer::of(cycled);
+    counts.tally(usize::from(answer.number));
+    g.mix(answer.code(0));
+    g.mix_state(answer.state);
 }
 
-fn with_storages(g: Going, main: &[u8], local: &[u8]) -> Going {
-    Going {
-        x: g.x,
-        digest: agree::mix_bytes(agree::mix_bytes(g.digest, main), local),
-    }
+fn report_returns(counts: &Counts) {
+    counts.print(b"ran", 100);
+    counts.print(b"refused 8", 8);
+    counts.print(b"refused 10", 10);
+    counts.print(b"refused 11", 11);
 }
 
-fn report_returns(counts: &[u32]) {
-    agree::print_count(b"ran", agree::counted(counts, 100));
-    agree::print_count(b"refused 8", agree::counted(counts, 8));
-    agree::print_count(b"refused 10", agree::counted(counts, 10));
-    agree::print_count(b"refused 11", agree::counted(counts, 11));
-}
-
-fn returns(g: Going, store: &mut [u64], main: &mut [u8], local: &mut [u8]) -> Going {
-    let mut counts = [0u32; 128];
-    let mut g = g;
-    for k in 0..12288u32 {
-        g = return_case(g, k, store, main, local, &mut counts);
+fn returns(g: &mut Going, s: &mut Storages) {
+    let mut counts = Counts::new();
+    for k in 0..12288 {
+        return_case(g, k, s, &mut counts);
         if k % 1536 == 1535 {
-            g = with_storages(g, main, local);
-            agree::print_digest(k as u64 + 1, g.digest);
+            s.mix(g);
+            g.print(k + 1);
         }
     }
     report_returns(&counts);
-    g
 }
 
 // ---- runs broken into
@@ -210,43 +125,10 @@ fn returns(g: Going, store: &mut [u64], main: &mut [u8], local: &mut [u8]) -> Go
 // Where an ending is counted: any refusal at 100, stopped at 101 and spent at 102.
 fn ending_at(e: Ending) -> usize {
     match e {
+        Ending::Refused(_) => 100,
         Ending::Stopped => 101,
-        Ending::Refused(_, _) => 100,
         Ending::Spent => 102,
     }
-}
-
-fn ending_number(e: Ending) -> u64 {
-    match e {
-        Ending::Stopped => 101 * 256,
-        Ending::Refused(number, field) => number as u64 * 256 + field as u64,
-        Ending::Spent => 102 * 256,
-    }
-}
-
-fn add(counts: &mut [u32], at: usize, more: u32) {
-    if at < counts.len() {
-        counts[at] = std::num::wrapping_add_u32(counts[at], more);
-    }
-}
-
-fn mix_finished(digest: u64, f: Finished) -> u64 {
-    let ending = f.ending;
-    let d = agree::mix(digest, ending_number(ending));
-    agree::mix_state(agree::mix(d, f.count as u64), f.state)
-}
-
-// A run that found a return owed, and left none, is counted at 103; any other past all counts.
-fn closed_at(closed: bool) -> usize {
-    if closed { 103 } else { 128 }
-}
-
-// All cycles are counted at 104.
-fn count_run(open: bool, f: Finished, counts: &mut [u32]) {
-    let ending = f.ending;
-    agree::tally(counts, ending_at(ending));
-    agree::tally(counts, closed_at(open & !f.state.owed));
-    add(counts, 104, f.count);
 }
 
 fn trap_address(y: u64) -> u32 {
@@ -256,111 +138,65 @@ fn trap_address(y: u64) -> u32 {
     (y / 16 % 4096) as u32
 }
 
-// A run's reading and state, and what goes on beside it.
-#[derive(Clone, Copy)]
-struct Broken {
-    reading: Reading,
-    going: Going,
-    state: State,
-}
-
-// A run of fewer than 64 cycles, and a trap.
+// A run of fewer than 64 cycles, and a trap. A run that found a return owed, and left none, is counted as closed.
 fn piece(
-    p: Broken,
-    store: &[u64],
-    main: &mut [u8],
-    local: &mut [u8],
-    counts: &mut [u32],
-) -> Broken {
-    let going = p.going;
-    let reading = p.reading;
-    let state = p.state;
-    let x = agree::next(going.x);
-    let f = run::run(reading, store, main, local, state, (x % 64) as u32);
-    count_run(state.owed, f, counts);
-    let d = mix_finished(going.digest, f);
-    let answer = trap::trap(f.state, trap_address(x / 64));
-    let number = number_of(answer);
-    agree::tally(counts, number as usize);
-    Broken {
-        reading: reading,
-        going: Going {
-            x: x,
-            digest: agree::mix(d, number as u64),
-        },
-        state: state_of(answer),
-    }
+    g: &mut Going,
+    reading: Reading,
+    state: State,
+    s: &mut Storages,
+    counts: &mut Counts,
+) -> State {
+    let x = g.draw();
+    let budget = (x % 64) as u32;
+    let f = run::run(reading, &s.store, &mut s.main, &mut s.local, state, budget);
+    counts.tally(ending_at(f.ending));
+    counts.tally_if(state.owed & !f.state.owed, CLOSED);
+    counts.add(CYCLES, f.count);
+    g.mix_finished(f);
+    let (number, after) = trapped(f.state, trap_address(x / 64));
+    counts.tally(usize::from(number));
+    g.mix(u64::from(number));
+    after
 }
 
-fn pieces(
-    p: Broken,
-    store: &[u64],
-    main: &mut [u8],
-    local: &mut [u8],
-    counts: &mut [u32],
-) -> Going {
-    let mut p = p;
-    for k in 0..6u32 {
-        p = piece(p, store, main, local, counts);
-    }
-    with_storages(p.going, main, local)
-}
-
-fn broken_run(
-    g: Going,
-    store: &mut [u64],
-    main: &mut [u8],
-    local: &mut [u8],
-    counts: &mut [u32],
-) -> Going {
-    let a = agree::next(g.x);
-    let c = agree::next(a);
-    let e = agree::next(c);
-    let state = State {
+fn broken_run(g: &mut Going, s: &mut Storages, counts: &mut Counts) {
+    let a = g.draw();
+    let c = g.draw();
+    let e = g.draw();
+    let reading = agree::reading_of(a / 0x1000_0000_0000);
+    agree::fill_store(g, reading, agree::drawn_rate(a / 0x4_0000), &mut s.store);
+    let mut state = State {
         owed: false,
         ..agree::drawn_state(c, e, (a / 0x1_0000_0000 % 256) as u16)
     };
-    let reading = agree::reading_of(a / 0x1000_0000_0000);
-    let x = agree::fill_store(reading, e, agree::drawn_rate(a / 0x4_0000), store);
-    let begun = Broken {
-        reading: reading,
-        going: Going {
-            x: x,
-            digest: g.digest,
-        },
-        state: state,
-    };
-    pieces(begun, store, main, local, counts)
+    for _ in 0..6 {
+        state = piece(g, reading, state, s, counts);
+    }
+    s.mix(g);
 }
 
-fn report_runs(counts: &[u32]) {
-    agree::print_count(b"stopped", agree::counted(counts, 101));
-    agree::print_count(b"spent", agree::counted(counts, 102));
-    agree::print_count(b"refused", agree::counted(counts, 100));
+fn report_runs(counts: &Counts) {
+    counts.print(b"stopped", 101);
+    counts.print(b"spent", 102);
+    counts.print(b"refused", 100);
     report_traps(counts);
-    agree::print_count(b"closed", agree::counted(counts, 103));
-    agree::print_count(b"cycles", agree::counted(counts, 104));
+    counts.print(b"closed", CLOSED);
+    counts.print(b"cycles", CYCLES);
 }
 
-fn runs(g: Going, store: &mut [u64], main: &mut [u8], local: &mut [u8]) {
-    let mut counts = [0u32; 128];
-    let mut g = g;
-    for k in 0..200u32 {
-        g = broken_run(g, store, main, local, &mut counts);
-        if k % 50 == 49 {
-            agree::print_digest(k as u64 + 1, g.digest);
-        }
+fn runs(g: &mut Going, s: &mut Storages) {
+    let mut counts = Counts::new();
+    for k in 0..200 {
+        broken_run(g, s, &mut counts);
+        g.print_every(50, k + 1);
     }
     report_runs(&counts);
 }
 
 fn main() {
-    let mut store = [0u64; 4096];
-    let mut main = [0u8; 65536];
-    let mut local = [0u8; 256];
-    agree::fill(41, &mut main);
-    agree::fill(43, &mut local);
-    let g = calls(Going { x: 37, digest: 6 });
-    let g = returns(g, &mut store, &mut main, &mut local);
-    runs(g, &mut store, &mut main, &mut local);
+    let mut s = Storages::drawn(41, 43);
+    let mut g = Going { x: 37, digest: 6 };
+    calls(&mut g);
+    returns(&mut g, &mut s);
+    runs(&mut g, &mut s);
 }

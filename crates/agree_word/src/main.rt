@@ -1,15 +1,9 @@
 // Taking apart and packing against tests/second: drawn words, fields and addresses, within their limits and beyond.
 #![tactic(auto)]
 
-use agree::STDOUT_FILENO;
-use word::{Apart, Fields, Packed};
-
-// The generator's last number, and the digest.
-#[derive(Clone, Copy)]
-struct Going {
-    x: u64,
-    digest: u64,
-}
+use agree::{Counts, Going};
+use digits::Refusal;
+use word::Fields;
 
 // An address of the store, or one time in 16 any number.
 fn drawn_address(x: u64) -> u32 {
@@ -19,43 +13,10 @@ fn drawn_address(x: u64) -> u32 {
     (x / 16 % 4097) as u32
 }
 
-fn mix_fields(digest: u64, f: Fields) -> u64 {
-    let d = agree::mix(
-        digest,
-        agree::eight(f.cn, f.ch, f.cl, f.cm, f.cu, f.ca, f.aa, f.cb),
-    );
-    let d = agree::mix(
-        d,
-        agree::eight(f.ck, f.ak, f.pk, f.cd, f.cf, f.cg, f.cv, f.cc),
-    );
-    agree::mix(d, agree::eight(0, 0, 0, 0, 0, 0, f.cs, f.asb))
-}
-
-// The digest after what taking apart answers, which is counted at its number, or at 0.
-fn mix_apart(digest: u64, answer: Apart, counts: &mut [u32]) -> u64 {
-    match answer {
-        Apart::Refused(number) => {
-            agree::tally(counts, number as usize);
-            agree::mix(digest, number as u64)
-        }
-        Apart::Fields(f) => {
-            agree::tally(counts, 0);
-            mix_fields(digest, f)
-        }
-    }
-}
-
-fn mix_packed(digest: u64, answer: Packed, counts: &mut [u32]) -> u64 {
-    match answer {
-        Packed::Refused(number) => {
-            agree::tally(counts, number as usize);
-            agree::mix(digest, number as u64)
-        }
-        Packed::Word(word) => {
-            agree::tally(counts, 0);
-            agree::mix(digest, word)
-        }
-    }
+fn mix_fields(g: &mut Going, f: Fields) {
+    g.mix(u64::from_be_bytes([f.cn, f.ch, f.cl, f.cm, f.cu, f.ca, f.aa, f.cb]));
+    g.mix(u64::from_be_bytes([f.ck, f.ak, f.pk, f.cd, f.cf, f.cg, f.cv, f.cc]));
+    g.mix(u64::from_be_bytes([0, 0, 0, 0, 0, 0, f.cs, f.asb]));
 }
 
 // The word that stands for the case: of the kinds of a cycle, or any 64 bits.
@@ -63,28 +24,34 @@ fn drawn_word(a: u64, b: u64, x: u64, address: u32) -> u64 {
     if x % 16 == 0 {
         return a;
     }
-    agree::word_for(
-        agree::reading_of(b / 0x100_0000_0000),
-        a,
-        b,
-        x / 16,
-        address % 4096,
-    )
+    let reading = agree::reading_of(b / 0x100_0000_0000);
+    agree::word_for(reading, a, b, x / 16, address % 4096)
+}
+
+// The digest after what taking apart answers, and where that is counted: at its number, or at 0.
+fn mix_apart(g: &mut Going, word: u64, address: u32) -> usize {
+    match word::take_apart(word, address) {
+        Ok(f) => {
+            mix_fields(g, f);
+            0
+        }
+        Err(refusal) => {
+            g.mix(u64::from(refusal.number()));
+            usize::from(refusal.number())
+        }
+    }
 }
 
 // A word taken apart, and its fault at an address of any size.
-fn apart(g: Going, counts: &mut [u32]) -> Going {
-    let a = agree::next(g.x);
-    let b = agree::next(a);
-    let c = agree::next(b);
-    let e = agree::next(c);
-    let address = drawn_address(e);
+fn apart(g: &mut Going, counts: &mut Counts) {
+    let a = g.draw();
+    let b = g.draw();
+    let c = g.draw();
+    let address = drawn_address(g.draw());
     let word = drawn_word(a, b, c, address);
-    let d = mix_apart(g.digest, word::take_apart(word, address), counts);
-    Going {
-        x: e,
-        digest: agree::mix(d, word::fault(word, address) as u64),
-    }
+    counts.tally(mix_apart(g, word, address));
+    let fault = word::fault(word, address);
+    g.mix(u64::from(fault.map_or(0, Refusal::number)));
 }
 
 // The fields with one of them any byte.
@@ -116,76 +83,59 @@ fn widened(f: Fields, which: u64, byte: u8) -> Fields {
 // Fields with PK right, with one of them near its width or any byte, or with PK as it comes.
 fn drawn_fields(a: u64, b: u64, x: u64) -> Fields {
     let f = agree::raw(a, b);
-    let kind = x % 8;
-    if kind < 4 {
-        return f;
-    }
-    if kind < 6 {
-        return widened(f, x / 8 % 18, (x / 0x1_0000 % 256) as u8);
-    }
-    if kind < 7 {
-        return widened(f, x / 8 % 18, (x / 0x1_0000 % 72) as u8);
-    }
-    Fields {
-        pk: (x / 8 % 2) as u8,
-        ..f
+    match x % 8 {
+        0..4 => f,
+        4 | 5 => widened(f, x / 8 % 18, (x / 0x1_0000 % 256) as u8),
+        6 => widened(f, x / 8 % 18, (x / 0x1_0000 % 72) as u8),
+        _ => Fields {
+            pk: (x / 8 % 2) as u8,
+            ..f
+        },
     }
 }
 
 // Fields packed, and what they packed to taken apart again.
-fn pack(g: Going, counts: &mut [u32]) -> Going {
-    let a = agree::next(g.x);
-    let b = agree::next(a);
-    let c = agree::next(b);
-    let e = agree::next(c);
-    let address = drawn_address(e);
+fn pack(g: &mut Going, counts: &mut Counts) {
+    let a = g.draw();
+    let b = g.draw();
+    let c = g.draw();
+    let address = drawn_address(g.draw());
     let f = drawn_fields(a, b, c);
-    let d = mix_packed(g.digest, word::pack(f, address), counts);
-    let again = word::take_apart(agree::packed(f, address), address);
-    let mut uncounted = [0u32; 1];
-    Going {
-        x: e,
-        digest: mix_apart(d, again, &mut uncounted),
-    }
+    let answer = word::pack(f, address);
+    counts.tally(usize::from(agree::number_of(&answer)));
+    g.mix(agree::packed(f, address));
+    mix_apart(g, agree::packed(f, address), address);
 }
 
-fn aparts(counts: &mut [u32]) {
+fn report(counts: &Counts) {
+    counts.print(b"answered", 0);
+    counts.print_each(b"refused ", 3, 10);
+    counts.print(b"refused 20", 20);
+}
+
+fn aparts() {
     agree::print_name(b"taken apart");
+    let mut counts = Counts::new();
     let mut g = Going { x: 37, digest: 6 };
-    for k in 0..100000u32 {
-        g = apart(g, counts);
-        if k % 10000 == 9999 {
-            agree::print_digest(k as u64 + 1, g.digest);
-        }
+    for k in 0..100000 {
+        apart(&mut g, &mut counts);
+        g.print_every(10000, k + 1);
     }
+    report(&counts);
 }
 
-fn packs(counts: &mut [u32]) {
+fn packs() {
     agree::print_name(b"packed");
+    let mut counts = Counts::new();
     let mut g = Going { x: 41, digest: 7 };
-    for k in 0..100000u32 {
-        g = pack(g, counts);
-        if k % 10000 == 9999 {
-            agree::print_digest(k as u64 + 1, g.digest);
-        }
+    for k in 0..100000 {
+        pack(&mut g, &mut counts);
+        g.print_every(10000, k + 1);
     }
-}
-
-fn report(counts: &[u32]) {
-    agree::print_count(b"answered", agree::counted(counts, 0));
-    for k in 3..10usize {
-        io::write_all(STDOUT_FILENO, b"refused ");
-        io::print_decimal(STDOUT_FILENO, k as u64);
-        agree::print_count(b"", agree::counted(counts, k));
-    }
-    agree::print_count(b"refused 20", agree::counted(counts, 20));
+    report(&counts);
 }
 
 fn main() {
-    let mut apart = [0u32; 32];
-    aparts(&mut apart);
-    report(&apart);
-    let mut packed = [0u32; 32];
-    packs(&mut packed);
-    report(&packed);
+    aparts();
+    packs();
 }

@@ -164,11 +164,11 @@ pub signed_kept : (main local : List ℕ) (a b n : ℕ) (subtract : Bool) → ((
     → let o = signed_of main local a b n subtract in SignedPromise main local a b n subtract o.answer o.main o.local
 unfolding signed_of
 signed_kept main local a b zero subtract bytes =
-    keeps DONE (add_checks whole (length main) (length local) a b 0) tt (signed_run main local a b 0 subtract) main local 0 (good_field main a 0 && good_field main b 0) (SignedSums main local a b 0 subtract)
+    keeps DONE (add_checks whole (length main) (length local) a b 0) (signed_run main local a b 0 subtract) main local 0 (good_field main a 0 && good_field main b 0) (SignedSums main local a b 0 subtract)
     (Bad (until_bad_signed main a b 0) main local)
     (λ e g. absurd (no_bytes (accepted whole (length main) (length local) a b 0 e))) (λ e g. absurd (no_bytes (accepted whole (length main) (length local) a b 0 e)))
 signed_kept main local a b (suc m) subtract bytes =
-    keeps DONE (add_checks whole (length main) (length local) a b (suc m)) tt (signed_run main local a b (suc m) subtract) main local (suc m) (good_field main a (suc m) && good_field main b (suc m))
+    keeps DONE (add_checks whole (length main) (length local) a b (suc m)) (signed_run main local a b (suc m) subtract) main local (suc m) (good_field main a (suc m) && good_field main b (suc m))
     (SignedSums main local a b (suc m) subtract) (Bad (until_bad_signed main a b (suc m)) main local)
     (λ e. sums_end main local a b m subtract (accepted whole (length main) (length local) a b (suc m) e) bytes) (λ e. bad_end main local a b m subtract (accepted whole (length main) (length local) a b (suc m) e) bytes)
 

@@ -73,7 +73,7 @@ const WORDS: [u64; 55] = [
     0x108813C00F61A9, // 36
 ];
 
-// The words, from address 0 on.
+// The words, from address 0 on. Beside decimal's function of this kind, since docs/PROMISES.md names both and their tables differ.
 pub fn words() -> [u64; 55]
     ensures { result ≡ signed_words }
 {
@@ -88,6 +88,7 @@ pub fn start(a: u16, b: u16, length: u8, subtract: bool) -> State
 }
 
 // The first field becomes the sum of both, or the difference. Storage and count are those of the run of the words. Summed has the overflow.
+// The storages and the fields' numbers stay parameters, as include/panel.h has them and as the promises speak of each.
 pub fn add(
     main: &mut [u8],
     local: &mut [u8],
@@ -100,12 +101,8 @@ pub fn add(
     ensures promise { SignedPromise main.old local.old first second length subtract result main.new local.new }
 {
     let status = digits::with_bit(0, 0, subtract);
-    let whole = Fence {
-        start: 0,
-        end: 65536,
-    };
     decimal::entry(
-        whole,
+        Fence::whole(),
         &words(),
         main,
         local,

@@ -1,42 +1,24 @@
 -- The laws of digits and of what they write. Assumes nothing.
 use Prim.Native.Nat.{ℕ, zero, suc, ◌+◌, ◌*◌, ◌^◌, ◌<◌, ◌≤◌}
 use mathlib.Core.Path.{◌≡◌, refl, sym, ◌∙◌}
-use mathlib.Core.Bool.{Bool, true, false, ◌&&◌}
+use mathlib.Core.Bool.{true, false, ◌&&◌}
 use mathlib.Core.List.{List}
 use native.Mathlib.Nat.{add-zero, mul-le-mul_left}
 use native.Mathlib.Numerals.{add-one}
 use native.Mathlib.Omega.{arith}
-use borrow.Author.Tests.{leb-true, ltb-true, lt-ltb, le-ltb, eq-eqb, ne_eqb}
+use borrow.Author.Tests.{leb-true, ltb-true, eq-eqb, ne_eqb}
 use lib.Dec.{eqb, ltb, leb}
-use lib.ListN.{length, get_or, drop, set, length-set, drop_of_length-le}
+use lib.ListN.{length, get_or, drop}
 use lib.Pow.{pow-add, pow_mono}
-use lib.Seq.{drop-cons, drop-drop, get_or-drop, get_or-set_same, drop-set-lt}
+use lib.Seq.{drop-cons, drop-drop, get_or-drop}
+use Rattle.std.specs.Prelude.{Some}
+use Rattle.std.specs.Char.{to_ascii_uppercase}
 use Rattle.digits.proofs.Truth.{both}
 use Rattle.text.specs.Ascii.{ascii}
-use Rattle.arguments.specs.Arguments.{between, digit_value, all_digits, digits_fit, value_from, number_fits, capital_of, names, place_in, place_of, byte_form, address_form, limit_form, cycle_fits, trap_cycle, trap_address, trap_form, reading_given, given_of, digit_from_last, laid}
+use Rattle.arguments.specs.Arguments.{digit_value, all_digits, digits_fit, value_from, number_fits, names, place_of, byte_form, address_form, limit_form, cycle_fits, trap_cycle, trap_address, trap_form, reading_given, given_of, laid}
 use Rattle.arguments.specs.declared.Given.TheVariants as G
 
-pub inside : (low high c : ℕ) → between low high c ≡ true → (low ≤ c) × (c ≤ high)
-inside low high c t = let (a, b) = both (leb low c) (leb c high) t in (leb-true low c a, leb-true c high b)
-
-pub digit_small : (c : ℕ) → digit_value c ≤ 16
-unfolding digit_value
-digit_small c = by (between 48 57 c) (between 65 70 c) (between 97 102 c) refl refl refl
-  where
-    by : (x y z : Bool) → between 48 57 c ≡ x → between 65 70 c ≡ y → between 97 102 c ≡ z → digit_value c ≤ 16
-    by true y z p q r = rw p (omega (arith, inside 48 57 c p))
-    by false true z p q r = rw (p, q) (omega (arith, inside 65 70 c q))
-    by false false true p q r = rw (p, q, r) (omega (arith, inside 97 102 c r))
-    by false false false p q r = rw (p, q, r) (omega arith)
-
--- one digit more to test: one that is none below the base, and one that is
-pub digit_wrong : (base i : ℕ) (text : List ℕ) → i < length text → base ≤ digit_value (get_or text i 0) → all_digits base (drop i text) ≡ false
-digit_wrong base i text h k = rw (drop-cons text i 0 h, le-ltb (digit_value (get_or text i 0)) base k)
-
-pub digit_right : (base i : ℕ) (text : List ℕ) → i < length text → digit_value (get_or text i 0) < base → all_digits base (drop (i + 1) text) ≡ all_digits base (drop i text)
-digit_right base i text h k = rw (drop-cons text i 0 h, lt-ltb (digit_value (get_or text i 0)) base k, add-one)
-
--- and to read
+-- one digit more to read
 pub value_step : (base n i : ℕ) (text : List ℕ) → i < length text → value_from base (n * base + digit_value (get_or text i 0)) (drop (i + 1) text) ≡ value_from base n (drop i text)
 value_step base n i text h = rw (drop-cons text i 0 h, add-one)
 
@@ -72,28 +54,14 @@ short_value n k h e =
 
 -- ---- names
 
-names_step : (name text : List ℕ) (i : ℕ) → i < length name → names (drop i name) (drop i text) ≡ eqb (capital_of (get_or text i 0)) (get_or name i 0) && names (drop (i + 1) name) (drop (i + 1) text)
+names_step : (name text : List ℕ) (i : ℕ) → i < length name → names (drop i name) (drop i text) ≡ eqb (to_ascii_uppercase (get_or text i 0)) (get_or name i 0) && names (drop (i + 1) name) (drop (i + 1) text)
 names_step name text i h = rw (drop-cons name i 0 h, get_or-drop i text 0 0, add-zero, drop-drop 1 i text, add-one)
 
-pub letter_wrong : (name text : List ℕ) (i : ℕ) → i < length name → (capital_of (get_or text i 0) ≡ get_or name i 0 → ⊥) → names (drop i name) (drop i text) ≡ false
-letter_wrong name text i h k = names_step name text i h ∙ rw (ne_eqb (capital_of (get_or text i 0)) (get_or name i 0) k)
+pub letter_wrong : (name text : List ℕ) (i : ℕ) → i < length name → (to_ascii_uppercase (get_or text i 0) ≡ get_or name i 0 → ⊥) → names (drop i name) (drop i text) ≡ false
+letter_wrong name text i h k = names_step name text i h ∙ rw (ne_eqb (to_ascii_uppercase (get_or text i 0)) (get_or name i 0) k)
 
-pub letter_right : (name text : List ℕ) (i : ℕ) → i < length name → capital_of (get_or text i 0) ≡ get_or name i 0 → names (drop (i + 1) name) (drop (i + 1) text) ≡ names (drop i name) (drop i text)
-letter_right name text i h k = sym (names_step name text i h ∙ rw (eq-eqb (capital_of (get_or text i 0)) (get_or name i 0) k))
-
-pub name_end : (name text : List ℕ) (i : ℕ) → length name ≤ i → names (drop i name) (drop i text) ≡ eqb (get_or text i 0) 61
-name_end name text i h = rw (drop_of_length-le name h, get_or-drop i text 0 0, add-zero)
-
--- ---- places
-
-pub place_here : (c i : ℕ) (list : List ℕ) → i < length list → c ≡ get_or list i 0 → place_in c (drop i list) ≡ 0
-place_here c i list h e = rw (drop-cons list i 0 h, eq-eqb c (get_or list i 0) e)
-
-pub place_later : (c i : ℕ) (list : List ℕ) → i < length list → (c ≡ get_or list i 0 → ⊥) → place_in c (drop i list) ≡ suc (place_in c (drop (i + 1) list))
-place_later c i list h e = rw (drop-cons list i 0 h, ne_eqb c (get_or list i 0) e, add-one)
-
-pub place_none : (c i : ℕ) (list : List ℕ) → length list ≤ i → place_in c (drop i list) ≡ 0
-place_none c i list h = rw (drop_of_length-le list h)
+pub letter_right : (name text : List ℕ) (i : ℕ) → i < length name → to_ascii_uppercase (get_or text i 0) ≡ get_or name i 0 → names (drop (i + 1) name) (drop (i + 1) text) ≡ names (drop i name) (drop i text)
+letter_right name text i h k = sym (names_step name text i h ∙ rw (eq-eqb (to_ascii_uppercase (get_or text i 0)) (get_or name i 0) k))
 
 -- ---- an argument: how long its digits are, and what it gives
 
@@ -119,23 +87,23 @@ trap_short text t =
     (number_short (trap_cycle text) (both (number_fits (trap_cycle text)) (ltb 0 (value_from 10 0 (trap_cycle text))) cycle).0, fit_short 16 4 (trap_address text) address)
 
 module _ (text : List ℕ) where
-  pub gives_byte : byte_form text ≡ true → given_of text ≡ G.Register (place_of text) (value_from 16 0 (drop 2 text))
+  pub gives_byte : byte_form text ≡ true → given_of text ≡ Some (G.Register (place_of text) (value_from 16 0 (drop 2 text)))
   unfolding given_of
   gives_byte a = rw a
 
-  pub gives_address : byte_form text ≡ false → address_form text ≡ true → given_of text ≡ G.Register 13 (value_from 16 0 (drop 3 text))
+  pub gives_address : byte_form text ≡ false → address_form text ≡ true → given_of text ≡ Some (G.Register 13 (value_from 16 0 (drop 3 text)))
   unfolding given_of
   gives_address a b = rw (a, b)
 
-  pub gives_from : byte_form text ≡ false → address_form text ≡ false → limit_form (ascii "FROM") text ≡ true → given_of text ≡ G.From (value_from 10 0 (drop 5 text))
+  pub gives_from : byte_form text ≡ false → address_form text ≡ false → limit_form (ascii "FROM") text ≡ true → given_of text ≡ Some (G.From (value_from 10 0 (drop 5 text)))
   unfolding given_of
   gives_from a b c = rw (a, b, c)
 
-  pub gives_to : byte_form text ≡ false → address_form text ≡ false → limit_form (ascii "FROM") text ≡ false → limit_form (ascii "TO") text ≡ true → given_of text ≡ G.To (value_from 10 0 (drop 3 text))
+  pub gives_to : byte_form text ≡ false → address_form text ≡ false → limit_form (ascii "FROM") text ≡ false → limit_form (ascii "TO") text ≡ true → given_of text ≡ Some (G.To (value_from 10 0 (drop 3 text)))
   unfolding given_of
   gives_to a b c d = rw (a, b, c, d)
 
-  pub gives_trap : byte_form text ≡ false → address_form text ≡ false → limit_form (ascii "FROM") text ≡ false → limit_form (ascii "TO") text ≡ false → trap_form text ≡ true → given_of text ≡ G.Trap (value_from 10 0 (trap_cycle text)) (value_from 16 0 (trap_address text))
+  pub gives_trap : byte_form text ≡ false → address_form text ≡ false → limit_form (ascii "FROM") text ≡ false → limit_form (ascii "TO") text ≡ false → trap_form text ≡ true → given_of text ≡ Some (G.Trap (value_from 10 0 (trap_cycle text)) (value_from 16 0 (trap_address text)))
   unfolding given_of
   gives_trap a b c d e = rw (a, b, c, d, e)
 
@@ -144,11 +112,6 @@ module _ (text : List ℕ) where
   gives_reading a b c d e = rw (a, b, c, d, e)
 
 -- ---- a field
-
-pub lay_step : (text field : List ℕ) (at k x : ℕ) → at < length field → drop (suc at) field ≡ laid k text → x ≡ digit_from_last text (2 * k + 1) * 16 + digit_from_last text (2 * k) → drop at (set field at x) ≡ laid (suc k) text
-lay_step text field at k x h e p =
-    let l : at < length (set field at x) = rw length-set h in
-    rw (drop-cons (set field at x) at 0 l, get_or-set_same field at x 0 h, drop-set-lt (suc at) field at x (omega arith), e, p)
 
 pub length_laid : (n : ℕ) (text : List ℕ) → length (laid n text) ≡ n
 length_laid zero text = refl

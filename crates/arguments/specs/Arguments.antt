@@ -1,17 +1,16 @@
 -- What stands on the board's command line: numbers, registers with their values, traps, a reading, and the cycles to show. Assumes nothing.
-use Rattle.std.specs.Prelude.{ℕ, zero, suc, ◌+◌, ◌-◌, ◌*◌, ◌/◌, ◌%◌, List, [], ◌∷◌, Bool, true, false, cond, ◌&&◌, ◌||◌, eqb, ltb, leb, length, get_or, take, drop, set}
+use Rattle.std.specs.Prelude.{ℕ, zero, suc, ◌+◌, ◌-◌, ◌*◌, ◌/◌, ◌%◌, List, [], ◌∷◌, Bool, false, cond, ◌&&◌, ◌||◌, eqb, ltb, leb, length, get_or, take, drop, set, ℤ, Option, Some, None, Result, Ok, Err}
+use Rattle.std.specs.Char.{to_ascii_uppercase}
+use Rattle.std.specs.List.{list_all}
 use Rattle.digits.specs.Packed.{signed}
 use Rattle.text.specs.Ascii.{ascii}
 use Rattle.machine.specs.declared.State.{State}
 use Rattle.channels.specs.Channels.{saved, loaded}
-use Rattle.arguments.specs.declared.Number.{Number}
-use Rattle.arguments.specs.declared.Number.TheVariants as N
-use Rattle.arguments.specs.declared.Whole.{Whole}
-use Rattle.arguments.specs.declared.Whole.TheVariants as W
+use Rattle.codes.specs.declared.Reading.TheVariants as C
+use Rattle.arguments.specs.declared.WholeError.{WholeError}
+use Rattle.arguments.specs.declared.WholeError.TheVariants as W
 use Rattle.arguments.specs.declared.Given.{Given}
 use Rattle.arguments.specs.declared.Given.TheVariants as G
-use Rattle.arguments.specs.declared.Bounds.{Bounds}
-use Rattle.arguments.specs.declared.Bounds.TheVariants as B
 
 -- ---- digits
 
@@ -25,8 +24,7 @@ digit_value c = cond (between 48 57 c) (c - 48) (cond (between 65 70 c) (c - 55)
 
 -- every character is a digit below the base
 abbrev pub all_digits : ℕ → List ℕ → Bool
-all_digits base [] = true
-all_digits base (c ∷ cs) = ltb (digit_value c) base && all_digits base cs
+all_digits base text = list_all (λ c. ltb (digit_value c) base) text
 
 -- there are 1 to `most` characters, and every one is a digit
 abbrev pub digits_fit : ℕ → ℕ → List ℕ → Bool
@@ -44,31 +42,27 @@ abbrev pub number_fits : List ℕ → Bool
 number_fits text = digits_fit 10 7 text && leb (value_from 10 0 text) 1000000
 
 -- the number that a text writes
-unfoldable pub number_of : List ℕ → Number
-number_of text = cond (number_fits text) (N.Is (value_from 10 0 text)) N.Wrong
+unfoldable pub number_of : List ℕ → Option ℕ
+number_of text = cond (number_fits text) (Some (value_from 10 0 text)) None
 
 -- ---- a whole number
 
 -- 1 to 15 decimal digits, below zero or not; more of them are too many
-unfoldable pub whole_in : Bool → List ℕ → Whole
+unfoldable pub whole_in : Bool → List ℕ → Result ℤ WholeError
 whole_in minus text =
-    cond (digits_fit 10 15 text) (W.Is (signed minus (value_from 10 0 text))) (cond (digits_fit 10 (length text) text) W.Long W.Wrong)
+    cond (digits_fit 10 15 text) (Ok (signed minus (value_from 10 0 text))) (cond (digits_fit 10 (length text) text) (Err W.Long) (Err W.Wrong))
 
 -- '+' or '-' may stand before them
-unfoldable pub whole_of : List ℕ → Whole
+unfoldable pub whole_of : List ℕ → Result ℤ WholeError
 whole_of text =
     cond (eqb (get_or text 0 0) 43 || eqb (get_or text 0 0) 45) (whole_in (eqb (get_or text 0 0) 45) (drop 1 text)) (whole_in false text)
 
 -- ---- an argument
 
--- a letter as a capital: a small one, 'a' to 'z', is 32 more
-unfoldable pub capital_of : ℕ → ℕ
-capital_of c = cond (between 97 122 c) (c - 32) c
-
 -- the text begins with the name, in capitals or small letters, and '=' stands right after it; past its end a text has 0
 abbrev pub names : List ℕ → List ℕ → Bool
 names [] text = eqb (get_or text 0 0) 61
-names (n ∷ name) text = eqb (capital_of (get_or text 0 0)) n && names name (drop 1 text)
+names (n ∷ name) text = eqb (to_ascii_uppercase (get_or text 0 0)) n && names name (drop 1 text)
 
 -- the place of a character in a list, or the list's length
 abbrev pub place_in : ℕ → List ℕ → ℕ
@@ -81,7 +75,7 @@ letters = ascii "IJUVLTDRSGHMN"
 
 -- the place of the register that the first letter names; 13 where it names none
 unfoldable pub place_of : List ℕ → ℕ
-place_of text = place_in (capital_of (get_or text 0 0)) letters
+place_of text = place_in (to_ascii_uppercase (get_or text 0 0)) letters
 
 -- a register of one byte: its letter, '=', and 1 or 2 digits
 unfoldable pub byte_form : List ℕ → Bool
@@ -119,27 +113,27 @@ trap_form text = names (ascii "TRAP") text && (cycle_fits (trap_cycle text) && d
 
 -- the reading: "READING=" and one letter
 unfoldable pub reading_form : ℕ → List ℕ → Bool
-reading_form letter text = names (ascii "READING") text && (eqb (length text) 9 && eqb (capital_of (get_or text 8 0)) letter)
+reading_form letter text = names (ascii "READING") text && (eqb (length text) 9 && eqb (to_ascii_uppercase (get_or text 8 0)) letter)
 
 -- 'B' is basic, 'C' compatibility
-unfoldable pub reading_given : List ℕ → Given
-reading_given text = cond (reading_form 66 text) G.Basic (cond (reading_form 67 text) G.Compatibility G.Wrong)
+unfoldable pub reading_given : List ℕ → Option Given
+reading_given text = cond (reading_form 66 text) (Some (G.Reading C.Basic)) (cond (reading_form 67 text) (Some (G.Reading C.Compatibility)) None)
 
 -- what an argument gives
-unfoldable pub given_of : List ℕ → Given
+unfoldable pub given_of : List ℕ → Option Given
 given_of text =
-    cond (byte_form text) (G.Register (place_of text) (value_from 16 0 (drop 2 text)))
-    (cond (address_form text) (G.Register 13 (value_from 16 0 (drop 3 text)))
-    (cond (limit_form (ascii "FROM") text) (G.From (value_from 10 0 (drop 5 text)))
-    (cond (limit_form (ascii "TO") text) (G.To (value_from 10 0 (drop 3 text)))
-    (cond (trap_form text) (G.Trap (value_from 10 0 (trap_cycle text)) (value_from 16 0 (trap_address text))) (reading_given text)))))
+    cond (byte_form text) (Some (G.Register (place_of text) (value_from 16 0 (drop 2 text))))
+    (cond (address_form text) (Some (G.Register 13 (value_from 16 0 (drop 3 text))))
+    (cond (limit_form (ascii "FROM") text) (Some (G.From (value_from 10 0 (drop 5 text))))
+    (cond (limit_form (ascii "TO") text) (Some (G.To (value_from 10 0 (drop 3 text))))
+    (cond (trap_form text) (Some (G.Trap (value_from 10 0 (trap_cycle text)) (value_from 16 0 (trap_address text)))) (reading_given text)))))
 
 -- ---- a fence
 
 -- a start and an end, ':' between them, each of 1 to 5 digits
-unfoldable pub bounds_of : List ℕ → Bounds
+unfoldable pub bounds_of : List ℕ → Option (ℕ × ℕ)
 bounds_of text =
-    cond (digits_fit 16 5 (before_colon text) && digits_fit 16 5 (after_colon text)) (B.Are (value_from 16 0 (before_colon text)) (value_from 16 0 (after_colon text))) B.Wrong
+    cond (digits_fit 16 5 (before_colon text) && digits_fit 16 5 (after_colon text)) (Some (value_from 16 0 (before_colon text), value_from 16 0 (after_colon text))) None
 
 -- ---- a register's value in a state
 

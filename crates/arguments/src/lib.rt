@@ -7,43 +7,27 @@ mod numbers;
 mod registers;
 mod wholes;
 
+use codes::Reading;
 pub use fields::lay;
 pub use forms::{bounds_of, given_of};
 pub use numbers::{is_number, number_of};
 pub use registers::with_register;
 pub use wholes::whole_of;
 
-// A number, or a text that is none.
-#[derive(Clone, Copy)]
-pub enum Number {
-    Is(u32),
-    Wrong,
-}
-
-// A register by its place with its value, the first or the last cycle to show, a trap's cycle and address, how the deck is read, or
-// none of them.
+// A register by its place with its value, the first or the last cycle to show, a trap's cycle and address, or how the deck is read.
+// The place is a number, since `with_register` answers any.
 #[derive(Clone, Copy)]
 pub enum Given {
     Register(u8, u16),
     From(u32),
     To(u32),
     Trap(u32, u32),
-    Basic,
-    Compatibility,
-    Wrong,
+    Reading(Reading),
 }
 
-// The start and the end of a fence, or a text that is none.
+// Why a text is no whole number: it has more than fifteen digits, or is none at all.
 #[derive(Clone, Copy)]
-pub enum Bounds {
-    Are(u32, u32),
-    Wrong,
-}
-
-// A whole number of at most fifteen digits, one of more, or a text that is none.
-#[derive(Clone, Copy)]
-pub enum Whole {
-    Is(i64),
+pub enum WholeError {
     Long,
     Wrong,
 }

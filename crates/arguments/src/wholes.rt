@@ -2,31 +2,31 @@
 ghost use Rattle.std.specs.Prelude.{◌≡◌};
 ghost use Rattle.arguments.specs.Arguments.{whole_in, whole_of};
 
-use crate::Whole;
-use crate::forms::after;
+use crate::WholeError;
 use crate::numbers::{digits_fit, long_value};
-use digits::byte_at;
 
 // The number that digits write, below zero or not.
-fn whole(minus: bool, text: &[u8]) -> Whole
+#[tactic(auto, unfolding(crate::specs::Arguments::whole_in))]
+fn whole(minus: bool, text: &[u8]) -> Result<i64, WholeError>
     ensures { result ≡ whole_in minus text.now }
 {
     if digits_fit(10, 15, text) {
-        return Whole::Is(signed::with_sign(minus, long_value(10, text)));
+        return Ok(signed::with_sign(minus, long_value(10, text)));
     }
     if digits_fit(10, text.len(), text) {
-        return Whole::Long;
+        return Err(WholeError::Long);
     }
-    Whole::Wrong
+    Err(WholeError::Wrong)
 }
 
 // The number that a text writes.
-pub fn whole_of(text: &[u8]) -> Whole
+#[tactic(auto, unfolding(crate::specs::Arguments::whole_of))]
+pub fn whole_of(text: &[u8]) -> Result<i64, WholeError>
     ensures { result ≡ whole_of text.now }
 {
-    let sign = byte_at(text, 0);
-    if (sign == b'+') | (sign == b'-') {
-        return whole(sign == b'-', after(text, 1));
+    match text {
+        [b'+', digits @ ..] => whole(false, digits),
+        [b'-', digits @ ..] => whole(true, digits),
+        _ => whole(false, text),
     }
-    whole(false, text)
 }

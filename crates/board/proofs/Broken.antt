@@ -1,6 +1,5 @@
 -- A run that traps break into, piece by piece. Assumes nothing.
 use Rattle.std.proofs.Common.{◌≡◌, ℕ, ◌-◌, true, false, List, [], ◌∷◌, ◌++◌, sym, ◌∙◌, append_assoc}
-use native.Mathlib.Nat.{sub-zero}
 use Rattle.codes.specs.declared.Reading.{Reading}
 use Rattle.machine.specs.Cycle.{Outcome}
 use Rattle.trap.specs.Trap.{trap_of}
@@ -15,13 +14,10 @@ module _ (budget : ℕ) (reading : Reading) (store main₀ local₀ : List ℕ) 
     pub traps : List (ℕ × ℕ)
     pub same : (more : List (ℕ × ℕ)) → broken_of (traps ++ more) budget reading store main₀ local₀ s₀ ≡ broken_of more left reading store main local s
 
-  pub unbroken : BrokenTo (budget - 0) main₀ local₀ s₀
-  unbroken = record { traps = []; same = λ more. rw (sub-zero budget) }
-
   module _ {left : ℕ} {main local : List ℕ} {s : State} (b : BrokenTo left main local s) where
     -- a piece was run to its end, and a trap made
     pub goes_on_lem : (cycles address rest : ℕ) {o : Outcome Finished} {u : State} → o ≡ run_of cycles reading store main local s → is_spent o.answer.ending ≡ true → left - cycles ≡ rest
-        → u ≡ state_of (trap_of address o.answer.state) → BrokenTo rest o.main o.local u
+        → u ≡ state_of o.answer.state (trap_of address o.answer.state) → BrokenTo rest o.main o.local u
     unfolding broken_of
     goes_on_lem cycles address rest p spent e f =
         let trap : ℕ × ℕ = (cycles, address) in

@@ -18,7 +18,7 @@ use Rattle.board.specs.Two.{board_at, turns_of, turn_ending, Plays}
 ran : (answer : Cycled) → is_spent (turn_ending answer) ≡ is_ran answer
 ran (C.Ran s) = refl
 ran (C.Stopped s) = refl
-ran (C.Refused s number field) = refl
+ran (C.Refused s refusal) = refl
 
 -- what holds of a board and of the other holds of each
 of_each : (P : Board → Type 0) (x : Board) → P x → P (other x) → (y : Board) → P y
@@ -26,19 +26,6 @@ of_each P A p q A = p
 of_each P A p q B = q
 of_each P B p q A = q
 of_each P B p q B = p
-
--- a turn that is taken, and one that passes
-pub it_plays : {x : Board} {a b : Fence} {reading : Reading} {store : List ℕ} {w v : Session} {t : Turned} {before endings : Board → Ending} → is_spent (before x) ≡ true
-    → t ≡ turned_of x a b reading store w → v ≡ t.after → endings x ≡ turn_ending t.answer → endings (other x) ≡ before (other x) → Plays x a b reading store w v before endings
-it_plays {w} on t s e f =
-    record {
-      session = rw on (s ∙ ap (λ (y : Turned). y.after) t);
-      its = rw on (e ∙ ap (λ (y : Turned). turn_ending y.answer) t);
-      others = f;
-    }
-
-pub it_passes : {x : Board} {a b : Fence} {reading : Reading} {store : List ℕ} (w : Session) {before : Board → Ending} → is_spent (before x) ≡ false → Plays x a b reading store w w before before
-it_passes w off = record { session = rw off refl; its = rw off refl; others = refl }
 
 module _ (order : List ℕ) (a b : Fence) (reading : Reading) (store : List ℕ) where
   abbrev turn : Board → Session → Turned

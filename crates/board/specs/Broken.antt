@@ -1,5 +1,8 @@
 -- A run that traps break into. Assumes nothing.
-use Rattle.std.specs.Prelude.{◌≡◌, ℕ, ◌-◌, Bool, true, false, cond, List, [], ◌∷◌}
+use Rattle.std.specs.Prelude.{◌≡◌, ℕ, ◌-◌, Bool, true, false, cond, List, [], ◌∷◌, unwrap_or}
+use Rattle.std.specs.Prelude.{Result}
+use Rattle.std.specs.Result.{result_ok}
+use Rattle.digits.specs.declared.refusal.Refusal.{Refusal}
 use Rattle.codes.specs.declared.Reading.{Reading}
 use Rattle.machine.specs.Cycle.{Outcome}
 use Rattle.machine.specs.declared.State.{State}
@@ -8,23 +11,20 @@ use Rattle.run.specs.declared.Ending.{Ending}
 use Rattle.run.specs.declared.Ending.TheVariants as E
 use Rattle.run.specs.declared.Finished.{Finished}
 use Rattle.trap.specs.Trap.{trap_of}
-use Rattle.trap.specs.declared.Trapped.{Trapped}
-use Rattle.trap.specs.declared.Trapped.TheVariants as T
 
--- the state after a trap, be it taken or refused
-abbrev pub state_of : Trapped → State
-state_of (T.Taken t) = t
-state_of (T.Refused t number) = t
+-- the state after a trap, be it taken or refused: then as before
+abbrev pub state_of : State → Result State Refusal → State
+state_of before answer = unwrap_or (result_ok answer) before
 
 -- the run may go on
 abbrev pub is_spent : Ending → Bool
 is_spent E.Stopped = false
-is_spent (E.Refused number field) = false
+is_spent (E.Refused refusal) = false
 is_spent E.Spent = true
 
 -- a trap after a piece of a run, and the rest from there; a piece that stopped or was refused ends the run
 abbrev pub on_trap : ℕ → (List ℕ → List ℕ → State → Outcome Finished) → Outcome Finished → Outcome Finished
-on_trap address rest o = cond (is_spent o.answer.ending) (rest o.main o.local (state_of (trap_of address o.answer.state))) o
+on_trap address rest o = cond (is_spent o.answer.ending) (rest o.main o.local (state_of o.answer.state (trap_of address o.answer.state))) o
 
 -- a run with traps, each after so many cycles more, to an address; what is left of the budget runs after the last. The count is the last
 -- piece's.

@@ -33,20 +33,20 @@ turns_of (suc n) order = turns_of n order ++ (board_at order n ∷ [])
 abbrev pub turn_ending : Cycled → Ending
 turn_ending (C.Ran s) = E.Spent
 turn_ending (C.Stopped s) = E.Stopped
-turn_ending (C.Refused s number field) = E.Refused number field
+turn_ending (C.Refused s refusal) = E.Refused refusal
 
 -- how a board's last turn ended
 abbrev pub endings : Played → Board → Ending
-endings p A = p.course_a.ending
-endings p B = p.course_b.ending
+endings p A = p.a.ending
+endings p B = p.b.ending
 
 abbrev pub session_of : Played → List ℕ → List ℕ → List ℕ → Session
-session_of p local-a local-b main = session (own p.a local-a) (own p.b local-b) main
+session_of p local-a local-b main = session (own p.a.state local-a) (own p.b.state local-b) main
 
 -- before the first turn both go on
 pub record Fresh (a b : State) (p : Played) : Type 0 where
-  pub of-a : p.a ≡ a
-  pub of-b : p.b ≡ b
+  pub of-a : p.a.state ≡ a
+  pub of-b : p.b.state ≡ b
   pub endings : (x : Board) → endings p x ≡ E.Spent
 
 -- one turn, and how it ended; or, where the board does not go on, none

@@ -1,5 +1,5 @@
 // board add, board ap and board sp: two numbers, added or subtracted by a shipped program one cycle at a time.
-ghost use Rattle.std.specs.Prelude.{◌≡◌, ◌<◌, ◌≤◌, max, true, length, take};
+ghost use Rattle.std.specs.Prelude.{◌≡◌, ◌≤◌, true, length, take, IfSome};
 ghost use Rattle.machine.specs.Cycle.{outcome};
 ghost use Rattle.codes.specs.declared.Reading.TheVariants.{Basic};
 ghost use Rattle.run.specs.Run.{run_of};
@@ -8,15 +8,15 @@ ghost use Rattle.decimal.specs.Entry.{bound, from_run};
 ghost use Rattle.text.specs.Text.{put_of, room_after};
 ghost use Rattle.board.specs.Adds.{field_length, laid_out, has_signs, answer_of, said_of};
 
-use crate::go::View;
-use crate::options::{Asked, Takes};
-use crate::out::Out;
-use crate::{go, options, out, tell};
+use crate::options::{self, Takes};
+use crate::out::Page;
+use crate::screen::Screen;
+use crate::{go, tell};
 use codes::Reading;
 use decimal::Added;
+use digits::Refusal;
 use machine::State;
 use std::rt::Env;
-use text::Written;
 
 // Add with a carry; or add or subtract with signs, AP or SP.
 #[derive(Clone, Copy)]
@@ -28,16 +28,7 @@ pub enum Operation {
 fn has_signs(operation: Operation) -> bool
     ensures { result ≡ has_signs operation }
 {
-    match operation {
-        Operation::Add(_) => false,
-        Operation::Signed(_) => true,
-    }
-}
-
-fn longer(a: usize, b: usize) -> usize
-    ensures { result ≡ max a b }
-{
-    if a < b { b } else { a }
+    matches!(operation, Operation::Signed(_))
 }
 
 // How many bytes the longer of two numbers takes.
@@ -45,7 +36,7 @@ fn field_length(first: usize, second: usize) -> usize
     requires { (first ≤ 32) × (second ≤ 32) }
     ensures { result ≡ field_length first second }
 {
-    (longer(first, second) + 1) / 2
+    first.max(second).div_ceil(2)
 }
 
 // The two numbers in main storage, zeros round them.
@@ -60,157 +51,121 @@ fn lay_out(first: &[u8], second: &[u8], size: usize, main: &mut [u8])
     arguments::lay(second, &mut main[0x200..second_end]);
 }
 
-#[derive(Clone, Copy)]
-struct Sum {
-    added: Added,
-    out: Out,
-}
-
 // A program's words over the two fields, each cycle shown: an entry's own run and answer.
 fn answered(
-    view: View,
+    screen: &mut Screen<'_>,
     store: &[u64],
     start: State,
     done: u16,
     size: usize,
     main: &mut [u8],
     local: &mut [u8],
-    room: &mut [u8],
-) -> Sum
+) -> Added
     requires { size ≤ 16 }
-    ensures { outcome result.added main.new local.new ≡ from_run done (run_of (bound size) Basic store.now main.old local.old start) }
+    ensures { outcome result main.new local.new ≡ from_run done (run_of (bound size) Basic store.now main.old local.old start) }
 {
     let budget = 40 * (size as u32) + 40;
-    let out = go::begin(view, start, room);
-    let went = go::go(
-        view,
-        0,
-        Reading::Basic,
-        store,
-        main,
-        local,
-        start,
-        budget,
-        out,
-        room,
-    );
-    let out = go::end(went.finished, went.out, room);
-    Sum {
-        added: decimal::answered_at(went.finished, done),
-        out: out,
-    }
+    screen.begin(start);
+    let finished = go::go(screen, 0, Reading::Basic, store, main, local, start, budget);
+    screen.end(finished);
+    decimal::answered_at(finished, done)
 }
 
 // By the operation's own words.
 fn summed(
-    view: View,
+    screen: &mut Screen<'_>,
     operation: Operation,
     size: usize,
     main: &mut [u8],
     local: &mut [u8],
-    room: &mut [u8],
-) -> Sum
+) -> Added
     requires le_size { (1 ≤ size) × (size ≤ 16) }
     requires main_len { (length main.old ≡ 1024) × (length local.old ≡ 256) }
-    ensures { outcome result.added main.new local.new ≡ answer_of operation main.old local.old size }
+    ensures { outcome result main.new local.new ≡ answer_of operation main.old local.old size }
 {
     match operation {
         Operation::Add(carry) => answered(
-            view,
+            screen,
             &decimal::words(),
             decimal::start(0x100, 0x200, size as u8, carry),
             decimal::SUMMED,
             size,
             main,
             local,
-            room,
         ),
         Operation::Signed(subtract) => answered(
-            view,
+            screen,
             &apsp::words(),
             apsp::start(0x100, 0x200, size as u8, subtract),
             apsp::DONE,
             size,
             main,
             local,
-            room,
         ),
     }
 }
 
-#[derive(Clone, Copy)]
-struct Said {
-    text: Written,
-    out: Out,
-}
-
 // Two numbers laid out and added, and what that came to, in the line lent.
+// That both numbers are digits is asked by `requires`, here and in the two functions that call this: a struct of two lent texts with
+// that invariant would be no plainer.
 fn say(
-    view: View,
+    screen: &mut Screen<'_>,
     operation: Operation,
     first: &[u8],
     second: &[u8],
     line: &mut [u8],
-    room: &mut [u8],
-) -> Said
+) -> Result<usize, Refusal>
     requires { (digits_fit 16 32 first.now ≡ true) × (digits_fit 16 32 second.now ≡ true) }
-    ensures { (result.text ≡ put_of (said_of operation first.now second.now) (length line.old)) × (line.new ≡ room_after (said_of operation first.now second.now) line.old) }
+    ensures { (result ≡ put_of (said_of operation first.now second.now) (length line.old)) × (line.new ≡ room_after (said_of operation first.now second.now) line.old) }
 {
     let size = field_length(first.len(), second.len());
     let mut main = [0u8; 1024];
     let mut local = [0u8; 256];
     lay_out(first, second, size, &mut main);
-    let sum = summed(view, operation, size, &mut main, &mut local, room);
-    let added = sum.added;
-    let out = sum.out;
+    let added = summed(screen, operation, size, &mut main, &mut local);
     let end = 0x100 + size;
-    let text = results::result(has_signs(operation), &main[0x100..end], added, line);
-    Said {
-        text: text,
-        out: out,
-    }
+    results::result(has_signs(operation), &main[0x100..end], added, line)
 }
 
 // A number as it was typed.
-fn typed(rt: &impl Env, out: Out, at: usize, room: &mut [u8]) -> Out {
+fn typed(rt: &impl Env, page: &mut Page<'_>, at: usize) {
     let mut text = [0u8; 40];
     let n = input::arg(rt, at, &mut text);
-    out::text(out, &text[..n], room)
-}
-
-fn signed_name(subtract: bool, out: Out, room: &mut [u8]) -> Out {
-    if subtract {
-        return out::text(out, b" SP ", room);
-    }
-    out::text(out, b" AP ", room)
+    page.text(&text[..n]);
 }
 
 // What stands between the two numbers.
-fn name(operation: Operation, out: Out, room: &mut [u8]) -> Out {
+fn name(operation: Operation) -> &'static [u8] {
     match operation {
-        Operation::Add(_) => out::text(out, b" + ", room),
-        Operation::Signed(subtract) => signed_name(subtract, out, room),
+        Operation::Add(_) => b" + ",
+        Operation::Signed(false) => b" AP ",
+        Operation::Signed(true) => b" SP ",
     }
 }
 
 // The numbers as they were typed, from that argument on, and the result after them.
-fn added(rt: &impl Env, view: View, operation: Operation, at: usize, first: &[u8], second: &[u8])
+fn added(
+    rt: &impl Env,
+    screen: &mut Screen<'_>,
+    operation: Operation,
+    at: usize,
+    first: &[u8],
+    second: &[u8],
+)
     requires at_bound { at ≤ 3 }
     requires first_value { (digits_fit 16 32 first.now ≡ true) × (digits_fit 16 32 second.now ≡ true) }
 {
-    let mut room = [0u8; 65536];
     let mut line = [0u8; 128];
-    let said = say(view, operation, first, second, &mut line, &mut room);
-    let text = said.text;
-    let out = typed(rt, said.out, at, &mut room);
-    let out = name(operation, out, &mut room);
-    let out = typed(rt, out, at + 1, &mut room);
-    let Written::Text(size) = text else {
+    let said = say(screen, operation, first, second, &mut line);
+    typed(rt, &mut screen.page, at);
+    screen.page.text(name(operation));
+    typed(rt, &mut screen.page, at + 1);
+    let Ok(size) = said else {
         tell::line(b"the result was not made");
         return;
     };
-    let out = out::text(out, &line[0..size], &mut room);
-    out::flush(out, &room);
+    screen.page.text(&line[..size]);
+    screen.page.flush();
 }
 
 // An operation, what it takes beside its numbers, and the place of that.
@@ -227,26 +182,29 @@ fn with_carry(rt: &impl Env, at: usize) -> Task
 {
     let mut text = [0u8; 2];
     let n = input::arg(rt, at, &mut text);
-    let one = check::same(&text[..n], b"1");
-    let given = one | check::same(&text[..n], b"0");
+    let (carry, at) = match &text[..n] {
+        b"0" => (false, at + 1),
+        b"1" => (true, at + 1),
+        _ => (false, at),
+    };
     Task {
-        operation: Operation::Add(one),
+        operation: Operation::Add(carry),
         takes: Takes::Carry,
-        at: if given { at + 1 } else { at },
+        at,
     }
 }
 
 fn task_of(rt: &impl Env, operation: Operation, at: usize) -> Task
     requires { at ≤ 5 }
 {
-    if has_signs(operation) {
-        return Task {
-            operation: operation,
+    match operation {
+        Operation::Add(_) => with_carry(rt, at),
+        Operation::Signed(_) => Task {
+            operation,
             takes: Takes::Cycles,
-            at: at,
-        };
+            at,
+        },
     }
-    with_carry(rt, at)
 }
 
 fn with_numbers(
@@ -261,54 +219,48 @@ fn with_numbers(
     requires first_value { (digits_fit 16 32 first.now ≡ true) × (digits_fit 16 32 second.now ≡ true) }
 {
     let task = task_of(rt, operation, at + 2);
-    let operation = task.operation;
-    let takes = task.takes;
-    let Asked::Options(o) = options::read(rt, task.at, takes) else {
+    let Some(o) = options::read(rt, task.at, task.takes) else {
         return;
     };
-    let view = View {
-        lamps: lamps,
-        from: o.from,
-        to: o.to,
-    };
-    added(rt, view, operation, at, first, second);
+    let mut room = [0u8; 65536];
+    let mut screen = Screen::new(o.view(lamps), &mut room);
+    added(rt, &mut screen, task.operation, at, first, second);
 }
 
-fn wrong(at: usize, signs: bool) -> usize
-    ensures { result ≡ 0 }
-{
+fn put_digits(signs: bool, text: &[u8], room: &mut [u8]) -> Result<usize, Refusal> {
     if signs {
-        tell::wrong(
-            at,
-            b"is not a number of 1 to 31 digits, with + or - before or after them, or : and a sign digit",
-        );
+        figures::put_typed(text, room)
     } else {
-        tell::wrong(at, b"is not a number of 1 to 32 digits");
+        text::put(text, room)
     }
-    0
 }
 
-fn put_digits(signs: bool, text: &[u8], room: &mut [u8]) -> Written {
-    if signs {
-        return figures::put_typed(text, room);
+// Reads a number, its sign as the last digit, and answers how many digits that is.
+fn number_in(text: &[u8], signs: bool, room: &mut [u8]) -> Option<usize>
+    ensures { IfSome result (λ n. (n ≤ length room.new) × (digits_fit 16 32 (take n room.new) ≡ true)) }
+{
+    let size = put_digits(signs, text, room).ok()?;
+    let digits = room.get(..size)?;
+    if (signs & (size < 2)) | !arguments::is_number(digits, 32) {
+        return None;
     }
-    text::put(text, room)
+    Some(size)
 }
 
-// Reads a number, its sign as the last digit; how many digits that is, or 0 where it is wrong, which is told.
-fn number_at(rt: &impl Env, at: usize, signs: bool, room: &mut [u8]) -> usize
-    ensures { (result ≤ length room.new) × (0 < result → digits_fit 16 32 (take result room.new) ≡ true) }
+// The same of an argument; where it is wrong, that is told.
+fn number_at(rt: &impl Env, at: usize, signs: bool, room: &mut [u8]) -> Option<usize>
+    ensures { IfSome result (λ n. (n ≤ length room.new) × (digits_fit 16 32 (take n room.new) ≡ true)) }
 {
     let mut text = [0u8; 40];
     let n = input::arg(rt, at, &mut text);
-    let Written::Text(size) = put_digits(signs, &text[..n], room) else {
-        return wrong(at, signs);
-    };
-    if room.len() < size {
-        return wrong(at, signs);
-    }
-    if (signs & (size < 2)) | !arguments::is_number(&room[0..size], 32) {
-        return wrong(at, signs);
+    let size = number_in(&text[..n], signs, room);
+    if size.is_none() {
+        let how: &[u8] = if signs {
+            b"is not a number of 1 to 31 digits, with + or - before or after them, or : and a sign digit"
+        } else {
+            b"is not a number of 1 to 32 digits"
+        };
+        tell::wrong(at, how);
     }
     size
 }
@@ -321,14 +273,12 @@ pub fn add(rt: &impl Env, lamps: bool, operation: Operation) {
     }
     let signs = has_signs(operation);
     let mut first = [0u8; 40];
-    let n = number_at(rt, at, signs, &mut first);
-    if n == 0 {
+    let Some(n) = number_at(rt, at, signs, &mut first) else {
         return;
-    }
+    };
     let mut second = [0u8; 40];
-    let m = number_at(rt, at + 1, signs, &mut second);
-    if m == 0 {
+    let Some(m) = number_at(rt, at + 1, signs, &mut second) else {
         return;
-    }
-    with_numbers(rt, lamps, operation, at, &first[0..n], &second[0..m]);
+    };
+    with_numbers(rt, lamps, operation, at, &first[..n], &second[..m]);
 }

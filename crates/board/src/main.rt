@@ -2,19 +2,19 @@
 #![tactic(auto)]
 
 mod add;
-mod both;
 mod go;
 mod options;
 mod out;
 mod readout;
 mod runs;
+mod screen;
 mod tell;
 mod traps;
 mod turns;
 mod two;
 
 use add::Operation;
-use out::STDOUT_FILENO;
+use out::{Page, STDOUT_FILENO};
 use std::rt::{Env, Files};
 
 fn usage() {
@@ -57,76 +57,31 @@ fn walk(rt: &impl Env) {
         return;
     }
     let mut room = [0u8; 65536];
-    let text = lamps::walk(&mut room);
-    let out = out::put(out::new(), text, &room);
-    out::flush(out, &room);
+    let mut page = Page::new(&mut room);
+    page.write(|room| lamps::walk(room));
+    page.flush();
 }
 
-#[derive(Clone, Copy)]
-enum Command {
-    Add,
-    Ap,
-    Sp,
-    Run,
-    Two,
-    Lamps,
-    Walk,
-    Signed,
-    Help,
-    Other,
-}
-
-fn is_help(word: &[u8]) -> bool {
-    check::same(word, b"help") | (check::same(word, b"-h") | check::same(word, b"--help"))
-}
-
-fn named(word: &[u8]) -> Command {
-    if check::same(word, b"add") {
-        return Command::Add;
+// A command that shows cycles, as lamps or as lines; whether it is one.
+fn shows(rt: &(impl Env + Files), name: &[u8], lamps: bool) -> bool {
+    match name {
+        b"add" => add::add(rt, lamps, Operation::Add(false)),
+        b"ap" => add::add(rt, lamps, Operation::Signed(false)),
+        b"sp" => add::add(rt, lamps, Operation::Signed(true)),
+        b"run" => runs::run(rt, lamps),
+        _ => return false,
     }
-    if check::same(word, b"ap") {
-        return Command::Ap;
-    }
-    if check::same(word, b"sp") {
-        return Command::Sp;
-    }
-    if check::same(word, b"run") {
-        return Command::Run;
-    }
-    if check::same(word, b"two") {
-        return Command::Two;
-    }
-    if check::same(word, b"lamps") {
-        return Command::Lamps;
-    }
-    if check::same(word, b"walk") {
-        return Command::Walk;
-    }
-    if check::same(word, b"signed") {
-        return Command::Signed;
-    }
-    if is_help(word) {
-        return Command::Help;
-    }
-    Command::Other
-}
-
-fn command_at(rt: &impl Env, at: usize) -> Command {
-    let mut word = [0u8; 16];
-    let n = input::arg(rt, at, &mut word);
-    named(&word[..n])
+    true
 }
 
 fn as_lamps(rt: &(impl Env + Files)) {
     if !tell::enough(rt, 2) {
         return;
     }
-    match command_at(rt, 2) {
-        Command::Add => add::add(rt, true, Operation::Add(false)),
-        Command::Ap => add::add(rt, true, Operation::Signed(false)),
-        Command::Sp => add::add(rt, true, Operation::Signed(true)),
-        Command::Run => runs::run(rt, true),
-        _ => tell::wrong(2, b"is neither add, ap, sp nor run"),
+    let mut word = [0u8; 16];
+    let n = input::arg(rt, 2, &mut word);
+    if !shows(rt, &word[..n], true) {
+        tell::wrong(2, b"is neither add, ap, sp nor run");
     }
 }
 
@@ -135,17 +90,18 @@ fn main(rt: HostRuntime) {
         usage();
         return;
     }
-    match command_at(&rt, 1) {
-        Command::Add => add::add(&rt, false, Operation::Add(false)),
-        Command::Ap => add::add(&rt, false, Operation::Signed(false)),
-        Command::Sp => add::add(&rt, false, Operation::Signed(true)),
-        Command::Run => runs::run(&rt, false),
-        Command::Two => runs::two(&rt),
-        Command::Lamps => as_lamps(&rt),
-        Command::Walk => walk(&rt),
-        Command::Signed => readout::signed(&rt),
-        Command::Help => help(&rt),
-        Command::Other => tell::wrong(
+    let mut word = [0u8; 16];
+    let n = input::arg(&rt, 1, &mut word);
+    if shows(&rt, &word[..n], false) {
+        return;
+    }
+    match &word[..n] {
+        b"two" => runs::two(&rt),
+        b"lamps" => as_lamps(&rt),
+        b"walk" => walk(&rt),
+        b"signed" => readout::signed(&rt),
+        b"help" | b"-h" | b"--help" => help(&rt),
+        _ => tell::wrong(
             1,
             b"is neither add, ap, sp, run, two, lamps, walk, signed nor help",
         ),

@@ -2,89 +2,82 @@
 ghost use Rattle.std.specs.Prelude.{◌≤◌, length};
 
 use crate::tell;
-use text::Written;
+use digits::Refusal;
 
 // The descriptor of standard output.
 pub(crate) const STDOUT_FILENO: i32 = 1;
 
-// How many bytes of the buffer wait, and whether a write failed: that is told once, and nothing more is written.
-#[derive(Clone, Copy)]
-pub struct Out {
+// A buffer, how many of its bytes wait, and whether a write failed: that is told once, and nothing more is written.
+#[derive(Drop)]
+pub struct Page<'a> {
+    pub room: &'a mut [u8],
     pub waiting: usize,
     pub failed: bool,
 }
 
-pub(crate) fn new() -> Out {
-    Out {
-        waiting: 0,
-        failed: false,
-    }
-}
-
 fn written(bytes: &[u8]) -> bool {
-    if io::write_all(STDOUT_FILENO, bytes) {
-        return true;
+    let fine = io::write_all(STDOUT_FILENO, bytes);
+    if !fine {
+        tell::line(b"the output was not written");
     }
-    tell::line(b"the output was not written");
-    false
+    fine
 }
 
-// Writes what waits.
-pub fn flush(out: Out, room: &[u8]) -> Out
-    ensures { result.waiting ≤ length room.now }
-{
-    let end = out.waiting;
-    if out.failed {
-        return Out { waiting: 0, ..out };
+impl<'a> Page<'a> {
+    pub(crate) fn new(room: &'a mut [u8]) -> Page<'a> {
+        Page {
+            room,
+            waiting: 0,
+            failed: false,
+        }
     }
-    if room.len() < end {
-        tell::line(b"the output was not made");
-        return Out { waiting: 0, ..out };
-    }
-    let fine = written(&room[0..end]);
-    Out {
-        waiting: 0,
-        failed: !fine,
-    }
-}
 
-// With room for the next text: the longest, the walk, takes less than half.
-pub fn ready(out: Out, room: &[u8]) -> Out
-    ensures { result.waiting ≤ length room.now }
-{
-    if room.len() / 2 < out.waiting {
-        return flush(out, room);
+    // Writes what waits.
+    pub fn flush(&mut self)
+        ensures { self.new.waiting ≤ length self.new.room.now }
+    {
+        let end = self.waiting;
+        self.waiting = 0;
+        if self.failed {
+            return;
+        }
+        let Some(bytes) = self.room.get(..end) else {
+            tell::line(b"the output was not made");
+            return;
+        };
+        self.failed = !written(bytes);
     }
-    out
-}
 
-fn lost(out: Out) -> Out {
-    tell::line(b"the output was not made");
-    out
-}
+    // With room for the next text: the longest, the walk, takes less than half.
+    pub fn ready(&mut self)
+        ensures { self.new.waiting ≤ length self.new.room.now }
+    {
+        if self.room.len() / 2 < self.waiting {
+            self.flush();
+        }
+    }
 
-// After a text was put where the next is to wait.
-pub fn put(out: Out, text: Written, room: &[u8]) -> Out {
-    let Written::Text(size) = text else {
-        return lost(out);
-    };
-    if room.len() < out.waiting {
-        return lost(out);
+    // After a text was put where the next is to wait.
+    pub fn put(&mut self, text: Result<usize, Refusal>) {
+        let left = self.room.len().saturating_sub(self.waiting);
+        match text {
+            Ok(size) if size <= left => self.waiting += size,
+            _ => tell::line(b"the output was not made"),
+        }
     }
-    if room.len() - out.waiting < size {
-        return lost(out);
-    }
-    Out {
-        waiting: out.waiting + size,
-        ..out
-    }
-}
 
-// Any text of a few bytes.
-pub fn text(out: Out, text: &[u8], room: &mut [u8]) -> Out {
-    let out = ready(out, room);
-    let from = out.waiting;
-    let end = room.len();
-    let text = text::put(text, &mut room[from..end]);
-    put(out, text, room)
+    // A text that is made where the next is to wait.
+    pub(crate) fn write<F: FnOnce(&mut [u8]) -> Result<usize, Refusal>>(&mut self, make: F)
+        requires { F.IsAlwaysCallable make }
+    {
+        self.ready();
+        let from = self.waiting;
+        let text = make(&mut self.room[from..]);
+        self.put(text);
+    }
+
+    // Any text of a few bytes.
+    pub fn text(&mut self, text: &[u8]) {
+        self.write(|room| text::put(text, room));
+    }
 }

@@ -1,32 +1,24 @@
 // board signed: a signed field as a number, or a number as its field.
-use crate::{out, tell};
-use arguments::Whole;
-use signed::{ReadOut, Wrote};
+use crate::out::Page;
+use crate::tell;
+use arguments::WholeError;
+use digits::Refusal;
 use std::rt::Env;
-use text::Written;
 
 // A text and a line feed.
-fn line(text: Written, room: &mut [u8]) {
-    let out = out::put(out::new(), text, room);
-    let out = out::text(out, b"\n", room);
-    out::flush(out, room);
-}
-
-fn show_number(number: i64) {
+fn line<F: FnOnce(&mut [u8]) -> Result<usize, Refusal>>(make: F)
+    requires { F.IsAlwaysCallable make }
+{
     let mut room = [0u8; 32];
-    let text = figures::put_number(number, &mut room);
-    line(text, &mut room);
-}
-
-fn show_field(field: &[u8]) {
-    let mut room = [0u8; 32];
-    let text = text::put_digits(field, &mut room);
-    line(text, &mut room);
+    let mut page = Page::new(&mut room);
+    page.write(make);
+    page.text(b"\n");
+    page.flush();
 }
 
 // A place counted from 1.
 fn from_one(place: usize) -> u64 {
-    if place < 15 { place as u64 + 1 } else { 16 }
+    place.min(15) as u64 + 1
 }
 
 // The number of a field that is typed. Where no digit is over 9 the place past them is the sign's.
@@ -34,11 +26,11 @@ fn read(typed: &[u8]) {
     let mut field = [0u8; 8];
     arguments::lay(typed, &mut field);
     match signed::read_signed(&field) {
-        ReadOut::Number(number) => show_number(number),
-        ReadOut::Refused(number) => {
+        Ok(number) => line(|room| figures::put_number(number, room)),
+        Err(refusal) => {
             let place = signed::bad_place(&field);
             let digit = digits::byte_at(typed, place);
-            tell::refused_field(2, number, digit, from_one(place));
+            tell::refused_field(2, refusal, digit, from_one(place));
         }
     }
 }
@@ -47,8 +39,8 @@ fn read(typed: &[u8]) {
 fn write(number: i64) {
     let mut field = [0u8; 8];
     match signed::write_signed(number, &mut field) {
-        Wrote::Written => show_field(&field),
-        Wrote::Refused(refusal) => tell::refused_number(2, refusal),
+        Ok(()) => line(|room| text::put_digits(&field, room)),
+        Err(refusal) => tell::refused(2, b"a number", refusal),
     }
 }
 
@@ -64,8 +56,10 @@ pub fn signed(rt: &impl Env) {
         return;
     }
     match arguments::whole_of(&typed[..n]) {
-        Whole::Is(number) => write(number),
-        Whole::Long => tell::refused_number(2, 27),
-        Whole::Wrong => tell::wrong(2, b"is neither a field of 16 digits nor a number"),
+        Ok(number) => write(number),
+        Err(WholeError::Long) => tell::refused(2, b"a number", Refusal::TooLong),
+        Err(WholeError::Wrong) => {
+            tell::wrong(2, b"is neither a field of 16 digits nor a number");
+        }
     }
 }

@@ -1,6 +1,6 @@
-// What is told on standard error. A program has no exit status: the root command gives 1 where anything stands there.
+// What is told on standard error. The program ends with 0 all the same: the root command gives 1 where anything stands there.
+use digits::Refusal;
 use std::rt::Env;
-use text::Written;
 
 // The descriptor of standard error.
 const STDERR_FILENO: i32 = 2;
@@ -24,33 +24,27 @@ pub fn wrong(at: usize, how: &[u8]) {
     io::write_all(STDERR_FILENO, b"\n");
 }
 
-fn put_front(bytes: &[u8], size: usize) {
-    if size <= bytes.len() {
-        io::write_all(STDERR_FILENO, &bytes[0..size]);
-    }
-}
-
 // By which number something is refused, and why, in words; none takes more than 64 bytes.
-fn by_number(number: u8) {
+fn by_number(refusal: Refusal) {
+    let number = refusal.number();
     io::write_all(STDERR_FILENO, b" refused by ");
     io::print_decimal(STDERR_FILENO, number as u64);
     io::write_all(STDERR_FILENO, b": ");
     let mut words = [0u8; 64];
-    if let Written::Text(size) = text::words(number, &mut words) {
-        put_front(&words, size);
-    }
+    let size = text::words(number, &mut words).unwrap_or(0);
+    io::write_all(STDERR_FILENO, &words[..size.min(64)]);
 }
 
-fn reason(at: usize, what: &[u8], number: u8) {
+fn reason(at: usize, what: &[u8], refusal: Refusal) {
     argument(at);
     io::write_all(STDERR_FILENO, b"is ");
     io::write_all(STDERR_FILENO, what);
-    by_number(number);
+    by_number(refusal);
 }
 
-pub fn refused_fences(number: u8) {
+pub fn refused_fences(refusal: Refusal) {
     io::write_all(STDERR_FILENO, b"board: the fences are");
-    by_number(number);
+    by_number(refusal);
     io::write_all(STDERR_FILENO, b"\n");
 }
 
@@ -62,19 +56,15 @@ pub(crate) fn crossed(from: u32, to: u32) -> bool {
     to < from
 }
 
-pub fn refused(at: usize, number: u8) {
-    reason(at, b"a deck", number);
-    io::write_all(STDERR_FILENO, b"\n");
-}
-
-pub fn refused_number(at: usize, number: u8) {
-    reason(at, b"a number", number);
+// What is refused, as "a deck".
+pub fn refused(at: usize, what: &[u8], refusal: Refusal) {
+    reason(at, what, refusal);
     io::write_all(STDERR_FILENO, b"\n");
 }
 
 // A field, with the digit for which it is refused, as it was typed, and its place.
-pub fn refused_field(at: usize, number: u8, digit: u8, place: u64) {
-    reason(at, b"a field", number);
+pub fn refused_field(at: usize, refusal: Refusal, digit: u8, place: u64) {
+    reason(at, b"a field", refusal);
     io::write_all(STDERR_FILENO, b": ");
     io::write_all(STDERR_FILENO, &[digit]);
     io::write_all(STDERR_FILENO, b" in place ");

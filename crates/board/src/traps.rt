@@ -1,82 +1,54 @@
 // Traps that the command line asks for, and the run that they break into.
-ghost use Rattle.std.specs.Prelude.{◌≡◌, ◌≤◌};
+ghost use Rattle.std.specs.Prelude.{◌≡◌, ◌≤◌, IfSome};
 ghost use Rattle.machine.specs.Cycle.{outcome};
 ghost use Rattle.board.specs.Broken.{state_of, is_spent, BrokenInto};
 
-use crate::go::{View, Went};
-use crate::out::Out;
-use crate::{go, out, tell};
+use crate::options::{self, Named};
+use crate::screen::Screen;
+use crate::{go, tell};
 use arguments::Given;
 use codes::Reading;
+use digits::Refusal;
 use machine::State;
-use run::Ending;
+use run::{Ending, Finished};
 use std::rt::Env;
-use trap::Trapped;
 
-// A trap after so many cycles; one that no run reaches stands for none.
+// A trap after so many cycles.
 #[derive(Clone, Copy)]
 pub struct Trap {
     pub after: u32,
     pub address: u32,
 }
 
-const NEVER: u32 = 0xFFFF_FFFF;
-
-fn none() -> Trap
-    ensures { result.after ≡ 0xFFFFFFFF }
-{
-    Trap {
-        after: NEVER,
-        address: 0,
-    }
-}
-
 // The trap that an argument asks for.
-pub fn asked(rt: &impl Env, at: usize) -> Trap {
-    let mut text = [0u8; 24];
-    let n = input::arg(rt, at, &mut text);
-    let Given::Trap(cycle, address) = arguments::given_of(&text[..n]) else {
-        return none();
-    };
-    // No argument gives cycle 0.
-    if cycle == 0 {
-        return none();
+pub fn asked(rt: &impl Env, at: usize) -> Option<Trap> {
+    match options::argument(rt, at) {
+        Some(
+            Named {
+                board: None,
+                given: Given::Trap(cycle, address),
+            },
+        ) => Some(Trap {
+            after: cycle.checked_sub(1)?,
+            address,
+        }),
+        _ => None,
     }
-    Trap {
-        after: cycle - 1,
-        address: address,
-    }
-}
-
-fn sooner(found: Trap, trap: Trap, from: u32) -> Trap
-    requires { from ≤ found.after }
-    ensures { from ≤ result.after }
-{
-    if trap.after < from {
-        return found;
-    }
-    if found.after <= trap.after {
-        return found;
-    }
-    trap
 }
 
 // The next trap after that many cycles or more, of those that the arguments ask for from `first` up to `end`.
-pub fn next(rt: &impl Env, first: usize, end: usize, from: u32) -> Trap
-    ensures { from ≤ result.after }
+pub fn next(rt: &impl Env, first: usize, end: usize, from: u32) -> Option<Trap>
+    ensures { IfSome result (λ trap. from ≤ trap.after) }
 {
-    let mut found = none();
-    let mut at = first;
-    while at < end {
-        found = sooner(found, asked(rt, at), from);
-        at += 1;
-    }
-    found
+    (first..end)
+        .filter_map(|at| asked(rt, at))
+        .filter(|trap| from <= trap.after)
+        .min_by_key(|trap| trap.after)
 }
 
-// A trap that the run did not reach.
-fn missed(trap: Trap) {
-    if trap.after < NEVER {
+// The trap that the run did not reach, where there is one.
+fn missed(trap: Option<Trap>) {
+    if let Some(trap) = trap {
         tell::missed(trap.after as u64 + 1);
     }
 }
@@ -85,38 +57,23 @@ fn missed(trap: Trap) {
 pub(crate) fn spent(ending: Ending) -> bool
     ensures { result ≡ is_spent ending }
 {
-    match ending {
-        Ending::Stopped => false,
-        Ending::Refused(_, _) => false,
-        Ending::Spent => true,
-    }
+    matches!(ending, Ending::Spent)
 }
 
-// The state from which the run goes on. A refusal is told on standard error.
-fn state_of(answer: Trapped) -> State
-    ensures { result ≡ state_of answer }
+// The state from which the run goes on: a trap that is refused, which is told, leaves it as it was.
+fn state_of(answer: Result<State, Refusal>, before: State) -> State
+    ensures { result ≡ state_of before answer }
 {
-    match answer {
-        Trapped::Taken(state) => state,
-        Trapped::Refused(state, _) => {
-            tell::line(b"a trap was refused");
-            state
-        }
+    if answer.is_err() {
+        tell::line(b"a trap was refused");
     }
-}
-
-fn show(answer: Trapped, out: Out, room: &mut [u8]) -> Out {
-    let out = out::ready(out, room);
-    let from = out.waiting;
-    let end = room.len();
-    let text = lamps::trapped(answer, &mut room[from..end]);
-    out::put(out, text, room)
+    answer.unwrap_or(before)
 }
 
 // Runs up to each trap, and after the last until stop, refusal or budget, and shows each cycle and each trap.
 pub fn broken_run(
     rt: &impl Env,
-    view: View,
+    screen: &mut Screen<'_>,
     reading: Reading,
     store: &[u64],
     main: &mut [u8],
@@ -124,33 +81,30 @@ pub fn broken_run(
     state: State,
     budget: u32,
     first: usize,
-    begun: Out,
-    room: &mut [u8],
-) -> Went
-    ensures { BrokenInto budget reading store.now main.old local.old state (outcome result.finished main.new local.new) }
+) -> Finished
+    ensures { BrokenInto budget reading store.now main.old local.old state (outcome result main.new local.new) }
 {
     let end = input::arg_count(rt);
     let mut now = state;
     let mut done: u32 = 0;
-    let mut out = begun;
-    let mut trap = next(rt, first, end, 0);
-    while trap.after < budget {
+    let mut from: u32 = 0;
+    while let Some(trap) = next(rt, first, end, from)
+        && trap.after < budget
+    {
         let leg = trap.after - done;
-        let went = go::go(view, done, reading, store, main, local, now, leg, out, room);
-        let finished = went.finished;
-        let ending = finished.ending;
-        if !spent(ending) {
-            missed(trap);
-            return went;
+        let finished = go::go(screen, done, reading, store, main, local, now, leg);
+        if !spent(finished.ending) {
+            missed(Some(trap));
+            return finished;
         }
         let answer = trap::trap(finished.state, trap.address);
-        out = show(answer, went.out, room);
-        now = state_of(answer);
+        screen.trap(answer, finished.state.wx);
+        now = state_of(answer, finished.state);
         done = trap.after;
-        trap = next(rt, first, end, done + 1);
+        from = done + 1;
     }
     let leg = budget - done;
-    let went = go::go(view, done, reading, store, main, local, now, leg, out, room);
-    missed(trap);
-    went
+    let finished = go::go(screen, done, reading, store, main, local, now, leg);
+    missed(next(rt, first, end, from));
+    finished
 }

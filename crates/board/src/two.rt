@@ -1,63 +1,50 @@
 // board two: a deck, an image, a number of cycles, two fences, an order, and options.
-ghost use Rattle.std.specs.Prelude.{◌<◌, ◌≤◌, length};
+ghost use Rattle.std.specs.Prelude.{◌<◌, ◌≤◌, length, IfSome};
 
-use crate::both::{Asked, Both};
-use crate::go::View;
-use crate::out::Out;
-use crate::turns::{Course, Rules};
-use crate::{both, go, out, tell, turns};
-use arguments::Bounds;
-use machine::State;
+use crate::options::{self, Options, Takes};
+use crate::screen::Screen;
+use crate::tell;
+use crate::turns::{self, Rules, Seat};
 use run::Ending;
 use session::Board;
 use std::rt::Env;
 use storage::Fence;
 
-fn bounds(rt: &impl Env, at: usize) -> Bounds {
+// The fence that an argument gives.
+fn fence(rt: &impl Env, at: usize) -> Option<Fence> {
     let mut text = [0u8; 24];
     let n = input::arg(rt, at, &mut text);
-    let found = arguments::bounds_of(&text[..n]);
-    if let Bounds::Wrong = found {
+    let Some((start, end)) = arguments::bounds_of(&text[..n]) else {
         tell::wrong(
             at,
             b"is not a fence START:END of two addresses of 1 to 5 hexadecimal digits",
         );
-    }
-    found
+        return None;
+    };
+    Some(Fence {
+        start: start as usize,
+        end: end as usize,
+    })
 }
 
-// Every letter names a board.
-fn all_name(text: &[u8]) -> bool {
-    let mut i = 0;
-    while i < text.len() {
-        if !both::names(text[i]) {
-            return false;
-        }
-        i += 1;
-    }
-    true
-}
-
-// How many letters an order has, or 0.
-fn order(rt: &impl Env, at: usize, text: &mut [u8]) -> usize
-    ensures { result ≤ length text.new }
+// How many letters an order has.
+fn order(rt: &impl Env, at: usize, text: &mut [u8]) -> Option<usize>
+    ensures { IfSome result (λ n. (0 < n) × (n ≤ length text.new)) }
 {
     let n = input::arg(rt, at, text);
-    if (0 < n) & (n <= 64) {
-        if all_name(&text[..n]) {
-            return n;
-        }
+    if (1..=64).contains(&n) && text[..n].iter().all(|letter| options::names(*letter)) {
+        return Some(n);
     }
     tell::wrong(at, b"is not an order of 1 to 64 letters A and B");
-    0
+    None
 }
 
 // The headings, and both boards' states.
-fn begin(view: View, a: State, b: State, room: &mut [u8]) -> Out {
-    let out = out::text(out::new(), b"  ", room);
-    let out = go::show_heading(view, out, room);
-    let out = turns::show_start(view, Board::A, a, out, room);
-    turns::show_start(view, Board::B, b, out, room)
+fn begin(screen: &mut Screen<'_>, o: Options) {
+    screen.page.text(b"  ");
+    screen.heading();
+    screen.start(turns::mark(Board::A), o.a);
+    screen.start(turns::mark(Board::B), o.b);
 }
 
 fn refused(board: Board) {
@@ -68,29 +55,25 @@ fn refused(board: Board) {
 }
 
 // A board that goes on has spent its turns; one that was refused is told on standard error too.
-fn end_of(board: Board, course: Course, s: State, out: Out, room: &mut [u8]) -> Out {
-    let ending = course.ending;
-    match ending {
-        Ending::Stopped => out,
-        Ending::Spent => turns::show_ending(board, Ending::Spent, s.wx, out, room),
-        Ending::Refused(_, _) => {
-            refused(board);
-            out
-        }
+fn end(screen: &mut Screen<'_>, board: Board, seat: Seat) {
+    match seat.ending {
+        Ending::Stopped => (),
+        Ending::Spent => screen.ending(turns::mark(board), Ending::Spent, seat.state.wx),
+        Ending::Refused(_) => refused(board),
     }
 }
 
-fn play(words: &[u64], main: &mut [u8], rules: Rules, order: &[u8], o: Both)
+fn play(words: &[u64], main: &mut [u8], rules: Rules, order: &[u8], o: Options)
     requires { 0 < length order.now }
 {
-    let reading = o.reading;
     let mut local_a = [0u8; 256];
     let mut local_b = [0u8; 256];
     let mut room = [0u8; 65536];
-    let out = begin(rules.view, o.a, o.b, &mut room);
+    let mut screen = Screen::new(o.view(false), &mut room);
+    begin(&mut screen, o);
     let p = turns::turns(
+        &mut screen,
         rules,
-        reading,
         order,
         words,
         main,
@@ -98,21 +81,18 @@ fn play(words: &[u64], main: &mut [u8], rules: Rules, order: &[u8], o: Both)
         &mut local_b,
         o.a,
         o.b,
-        out,
-        &mut room,
     );
-    let out = p.out;
-    let out = end_of(Board::A, p.course_a, p.a, out, &mut room);
-    let out = end_of(Board::B, p.course_b, p.b, out, &mut room);
-    out::flush(out, &room);
+    end(&mut screen, Board::A, p.a);
+    end(&mut screen, Board::B, p.b);
+    screen.page.flush();
 }
 
-// The fences, the order and the options are there.
-fn with_order(
+// The fences are there: the order and the options, from `first` on.
+fn with_fences(
     rt: &impl Env,
     words: &[u64],
     main: &mut [u8],
-    budget: u32,
+    turns: u32,
     first: usize,
     a: Fence,
     b: Fence,
@@ -120,27 +100,21 @@ fn with_order(
     requires { first ≤ 8 }
 {
     let mut text = [0u8; 72];
-    let n = order(rt, first, &mut text);
-    if n == 0 {
-        return;
-    }
-    let Asked::Both(o) = both::read(rt, first + 1) else {
+    let Some(n) = order(rt, first, &mut text) else {
         return;
     };
-    let number = session::open(main.len(), a, b);
-    if number != 0 {
-        tell::refused_fences(number);
+    let Some(o) = options::read(rt, first + 1, Takes::Two) else {
+        return;
+    };
+    if let Err(refusal) = session::open(main.len(), a, b) {
+        tell::refused_fences(refusal);
         return;
     }
     let rules = Rules {
-        view: View {
-            lamps: false,
-            from: o.from,
-            to: o.to,
-        },
-        a: a,
-        b: b,
-        turns: budget,
+        reading: o.reading,
+        a,
+        b,
+        turns,
     };
     play(words, main, rules, &text[..n], o);
 }
@@ -149,19 +123,11 @@ fn with_order(
 pub(crate) fn over(rt: &impl Env, words: &[u64], main: &mut [u8], budget: u32, first: usize)
     requires { first ≤ 6 }
 {
-    let Bounds::Are(start, end) = bounds(rt, first) else {
+    let Some(a) = fence(rt, first) else {
         return;
     };
-    let Bounds::Are(other_start, other_end) = bounds(rt, first + 1) else {
+    let Some(b) = fence(rt, first + 1) else {
         return;
     };
-    let a = Fence {
-        start: start as usize,
-        end: end as usize,
-    };
-    let b = Fence {
-        start: other_start as usize,
-        end: other_end as usize,
-    };
-    with_order(rt, words, main, budget, first + 2, a, b);
+    with_fences(rt, words, main, budget, first + 2, a, b);
 }

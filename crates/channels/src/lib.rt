@@ -1,33 +1,15 @@
 // The lamp channels: a state, and the work of a cycle, as the bytes that feed the lamps.
 #![tactic(auto)]
 
-ghost use Rattle.std.specs.Prelude.{◌≡◌, ◌+◌, ◌*◌, ◌/◌, ◌%◌};
+ghost use Rattle.std.specs.Prelude.{◌≡◌};
 ghost use Rattle.channels.specs.Channels.{saved, loaded, worked};
 
 use adder::Work;
 use digits::{byte_at, one};
 use machine::State;
 
-// A number of two bytes, high byte first.
-fn pair(high: u8, low: u8) -> u16
-    ensures { result ≡ high * 256 + low }
-{
-    high as u16 * 256 + low as u16
-}
-
-fn high(number: u16) -> u8
-    ensures { result ≡ number / 256 }
-{
-    (number / 256) as u8
-}
-
-fn low(number: u16) -> u8
-    ensures { result ≡ number % 256 }
-{
-    (number % 256) as u8
-}
-
 // The state that a record shows; a byte that it lacks is 0.
+#[tactic(auto, unfolding(crate::specs::Channels::loaded))]
 pub fn loaded(bytes: &[u8]) -> State
     ensures { result ≡ loaded bytes.now }
 {
@@ -45,7 +27,7 @@ pub fn loaded(bytes: &[u8]) -> State
         h: byte_at(bytes, 10),
         m: byte_at(bytes, 11),
         n: byte_at(bytes, 12),
-        wx: pair(byte_at(bytes, 13), byte_at(bytes, 14)),
+        wx: u16::from_be_bytes([byte_at(bytes, 13), byte_at(bytes, 14)]),
         ac: byte_at(bytes, 15) != 0,
         one_bc: byte_at(bytes, 16) != 0,
         z0: byte_at(bytes, 17) != 0,
@@ -55,15 +37,18 @@ pub fn loaded(bytes: &[u8]) -> State
         arriving_byte: byte_at(bytes, 21),
         digit_carry: byte_at(bytes, 22) != 0,
         invalid: byte_at(bytes, 23) != 0,
-        fwx: pair(byte_at(bytes, 24), byte_at(bytes, 25)),
+        fwx: u16::from_be_bytes([byte_at(bytes, 24), byte_at(bytes, 25)]),
         owed: byte_at(bytes, 26) != 0,
     }
 }
 
 // The record of a state.
+#[tactic(auto, unfolding(crate::specs::Channels::saved))]
 pub fn saved(s: State) -> [u8; 27]
     ensures { result ≡ saved s }
 {
+    let [w, x] = s.wx.to_be_bytes();
+    let [fw, fx] = s.fwx.to_be_bytes();
     [
         s.i,
         s.j,
@@ -78,8 +63,8 @@ pub fn saved(s: State) -> [u8; 27]
         s.h,
         s.m,
         s.n,
-        high(s.wx),
-        low(s.wx),
+        w,
+        x,
         one(s.ac),
         one(s.one_bc),
         one(s.z0),
@@ -89,13 +74,14 @@ pub fn saved(s: State) -> [u8; 27]
         s.arriving_byte,
         one(s.digit_carry),
         one(s.invalid),
-        high(s.fwx),
-        low(s.fwx),
+        fw,
+        fx,
         one(s.owed),
     ]
 }
 
 // The record of a cycle's work.
+#[tactic(auto, unfolding(crate::specs::Channels::worked))]
 pub fn worked(w: Work) -> [u8; 8]
     ensures { result ≡ worked w }
 {

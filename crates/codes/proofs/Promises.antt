@@ -2,6 +2,7 @@
 use Prim.Native.Nat.{ℕ}
 use mathlib.Core.Path.{◌≡◌}
 use mathlib.Core.Bool.{Bool}
+use Rattle.std.specs.Prelude.{Option}
 use Rattle.digits.proofs.Sole.{sole}
 use Rattle.codes.proofs.branches.high_branch.Reads as high_branch
 use Rattle.codes.proofs.branches.low_branch.Reads as low_branch
@@ -17,5 +18,5 @@ low_branch_sole κs args r q x y a b = sole a b
 pub changed_sole : (κs : _) (args : _) (r q : ℕ) (x y : _) → changed.Post κs args r x → changed.Post κs args q y → r ≡ q
 changed_sole κs args r q x y a b = sole a b
 
-pub unmodelled_sole : (κs : _) (args : _) (r q : ℕ) (x y : _) → unmodelled.Post κs args r x → unmodelled.Post κs args q y → r ≡ q
+pub unmodelled_sole : (κs : _) (args : _) (r q : Option ℕ) (x y : _) → unmodelled.Post κs args r x → unmodelled.Post κs args q y → r ≡ q
 unmodelled_sole κs args r q x y a b = sole a b

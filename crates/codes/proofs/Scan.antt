@@ -1,102 +1,123 @@
 -- The scan of the fields, row by row and code by code, finds what the paper's rows name. Assumes nothing.
-use Prim.Native.Nat.{ℕ, zero, suc, ◌+◌, ◌-◌, ◌*◌, ◌≤◌, ◌<◌}
-use mathlib.Core.Path.{◌≡◌, refl, sym, ap, ◌∙◌}
-use mathlib.Core.List.{List, [], ◌∷◌}
-use mathlib.Core.Bool.{Bool, true, false, cond, not, ◌&&◌, ◌||◌, or_self_left}
+use Prim.Native.Nat.{ℕ, zero, suc, ◌+◌, ◌≤◌, ◌<◌}
+use mathlib.Core.Path.{◌≡◌, refl}
+use mathlib.Core.List.{List, [], ◌∷◌, map}
+use mathlib.Core.Bool.{Bool, true, false, not, ◌&&◌, or_self_left}
+use native.Mathlib.Nat.{not-suc-le-zero, le_of_suc-le-suc}
 use native.Mathlib.Numerals.{add-one}
-use native.Mathlib.Omega.{arith}
-use borrow.Author.Tests.{eq-eqb, ne_eqb}
 use lib.Dec.{ltb, leb, eqb}
-use lib.ListN.{get_or, take, drop}
-use lib.Seq.{drop-cons}
-use Rattle.digits.specs.Table.{among}
-use Rattle.word.specs.Parity.{ca_to_w}
+use lib.ListN.{length, get_or, drop, drop_of_length-le}
+use Rattle.std.specs.Prelude.{Option, Some, None}
+use Rattle.digits.specs.Refusal.{Check, first}
+use Rattle.digits.specs.Table.{among, Each}
 use Rattle.word.specs.declared.Fields.{Fields}
 use Rattle.codes.specs.Reading.{is_basic}
 use Rattle.codes.specs.Modelled.{unmodelled_of}
 use Rattle.codes.specs.declared.Reading.{Reading}
 
--- the code's two tables
-abbrev places : List ℕ
-places = 4 ∷ 4 ∷ 5 ∷ 5 ∷ 6 ∷ 7 ∷ 7 ∷ 8 ∷ 9 ∷ 12 ∷ 15 ∷ 20 ∷ 20 ∷ 21 ∷ []
+-- ---- a row's codes, from one of them on
 
-abbrev table : List ℕ
-table =
-    4 ∷ 5 ∷ 5 ∷ 5 ∷ 5 ∷ 3 ∷ 3 ∷ 3 ∷ 3 ∷ 3 ∷ 3 ∷ 15 ∷ 15 ∷ 15 ∷ 15 ∷ 4 ∷ 12 ∷ 12 ∷ 12 ∷ 12 ∷ 6 ∷ 7 ∷ 7 ∷ 7 ∷ 7 ∷ 1 ∷ 1 ∷ 1 ∷ 1 ∷ 1 ∷ 2 ∷ 2 ∷ 2 ∷ 2 ∷ 2 ∷ 0 ∷ 1 ∷ 2 ∷ 3 ∷ 6 ∷ 1 ∷ 1 ∷ 1 ∷ 1 ∷ 1 ∷ 1 ∷ 1 ∷ 1 ∷ 1 ∷ 1 ∷ 1 ∷ 2 ∷ 3 ∷ 4 ∷ 4 ∷ 14 ∷ 14 ∷ 14 ∷ 14 ∷ 14 ∷ 5 ∷ 15 ∷ 15 ∷ 15 ∷ 15 ∷ 1 ∷ 1 ∷ 1 ∷ 1 ∷ 1 ∷ []
+-- the row applies, and the code is among those from a place on
+pub hit : Bool → ℕ → List ℕ → ℕ → Bool
+hit applies code codes k = applies && among code (drop k codes)
 
--- the code is among those of the row from its place k on
-pub hit : ℕ → ℕ → ℕ → Bool
-hit code row k = among code (take (5 - k) (drop (row * 5 + k) table))
+next_code : (n : ℕ) (l : List ℕ) (k d : ℕ) → eqb n (get_or l k d) ≡ false → among n (drop (suc k) l) ≡ among n (drop k l)
+next_code n [] zero d e = refl
+next_code n [] (suc k) d e = refl
+next_code n (x ∷ l) zero d e = rw e
+next_code n (x ∷ l) (suc k) d e = next_code n l k d e
 
--- the place of the first row, of n from the given one on, that has its code
-pub found : List ℕ → ℕ → ℕ → ℕ
-found codes row zero = 0
-found codes row (suc n) = cond (hit (get_or codes row 0) row 0) (get_or places row 0) (found codes (suc row) n)
+this_code : (n : ℕ) (l : List ℕ) (k d : ℕ) → k < length l → eqb n (get_or l k d) ≡ true → among n (drop k l) ≡ true
+this_code n [] k d h e = absurd (not-suc-le-zero h)
+this_code n (x ∷ l) zero d h e = rw e
+this_code n (x ∷ l) (suc k) d h e = this_code n l k d (le_of_suc-le-suc h) e
 
-module _ (code row k : ℕ) (in_row : row < 14) (in-codes : k < 5) where
-  turn : hit code row k ≡ eqb code (get_or table (row * 5 + k) 0) || hit code row (k + 1)
-  unfolding hit
-  turn =
-      let m : 5 - k ≡ suc (5 - (k + 1)) = omega arith in
-      let n : suc (row * 5 + k) ≡ row * 5 + (k + 1) = omega arith in
-      let d : drop (row * 5 + k) table ≡ get_or table (row * 5 + k) 0 ∷ drop (row * 5 + (k + 1)) table =
-      drop-cons table (row * 5 + k) 0 (omega arith) ∙ ap (λ (i : ℕ). get_or table (row * 5 + k) 0 ∷ drop i table) n in
-      ap (λ (i : ℕ). among code (take i (drop (row * 5 + k) table))) m ∙ ap (λ (l : List ℕ). among code (take (suc (5 - (k + 1))) l)) d
-
-  pub hit_yes : get_or table (row * 5 + k) 0 ≡ code → hit code row k ≡ true
-  hit_yes e = rw (turn, eq-eqb code (get_or table (row * 5 + k) 0) (sym e))
-
-  pub hit_no : (get_or table (row * 5 + k) 0 ≡ code → ⊥) → hit code row (k + 1) ≡ hit code row k
-  hit_no e = rw (turn, ne_eqb code (get_or table (row * 5 + k) 0) (λ h. e (sym h)))
-
-pub hit_end : (code row k : ℕ) → 5 ≤ k → hit code row k ≡ false
+pub hit_yes : (b : Bool) (n : ℕ) (l : List ℕ) (k d : ℕ) → k < length l → b && eqb n (get_or l k d) ≡ true → hit b n l k ≡ true
 unfolding hit
-hit_end code row k h = let m : 5 - k ≡ 0 = omega arith in rw m
+hit_yes false n l k d h e = e
+hit_yes true n l k d h e = this_code n l k d h e
 
-module _ (codes : List ℕ) (row : ℕ) where
-  pub found_on : row < 14 → hit (get_or codes row 0) row 0 ≡ false → found codes (row + 1) (14 - (row + 1)) ≡ found codes row (14 - row)
-  unfolding found
-  found_on h e = let m : 14 - row ≡ suc (14 - (row + 1)) = omega arith in rw (m, e, add-one row)
+pub hit_no : (b : Bool) (n : ℕ) (l : List ℕ) (k d : ℕ) → b && eqb n (get_or l k d) ≡ false → hit b n l (k + 1) ≡ hit b n l k
+unfolding hit
+hit_no false n l k d e = refl
+hit_no true n l k d e = rw add-one (next_code n l k d e)
 
-  pub found_at : row < 14 → hit (get_or codes row 0) row 0 ≡ true → get_or places row 0 ≡ found codes row (14 - row)
-  unfolding found
-  found_at h e = let m : 14 - row ≡ suc (14 - (row + 1)) = omega arith in rw (m, e)
+pub hit_end : (b : Bool) (n : ℕ) (l : List ℕ) (k : ℕ) → length l ≤ k → hit b n l k ≡ false
+unfolding hit
+hit_end false n l k h = refl
+hit_end true n l k h = rw (drop_of_length-le l h)
 
-  pub found_end : row ≡ 14 → 0 ≡ found codes row (14 - row)
-  unfolding found
-  found_end e = rw e
+-- ---- the rows, from one of them on
 
--- a row that does not speak of the word has a code that none has
-where_applies : (b : Bool) (code : ℕ) (codes : List ℕ) → among 255 codes ≡ false → among (cond b code 255) codes ≡ b && among code codes
-where_applies true code codes e = refl
-where_applies false code codes e = e
+-- a field's place, whether the row applies, the field's code, and the codes that are not modelled
+abbrev pub Row : Type 0
+Row = ℕ × Bool × ℕ × List ℕ
 
--- the codes as the scan has them
-abbrev pub codes_of : Reading → Fields → List ℕ
-codes_of reading f =
-    f.ch ∷ cond (not (is_basic reading)) f.ch 255 ∷ f.cl ∷ cond (is_basic reading) f.cl 255 ∷ f.cm ∷ cond (ltb f.cm 3) f.cu 255
-    ∷ cond (leb 3 f.cm) f.cu 255 ∷ cond (not (ca_to_w f)) f.ca 255 ∷ f.aa ∷ f.ak ∷ f.cd ∷ f.cs ∷ cond (is_basic reading) f.cs 255
-    ∷ f.asb ∷ []
+abbrev check_of : Row → Check ℕ
+check_of r = (r.0, r.1 && among r.2 r.3)
 
-pub found_is : (reading : Reading) (f : Fields) → found (codes_of reading f) 0 14 ≡ unmodelled_of reading f
-unfolding found hit unmodelled_of
-found_is reading f =
-    rw (
-      where_applies (not (is_basic reading)) f.ch (3 ∷ 3 ∷ 3 ∷ 3 ∷ 3 ∷ []) refl,
-      where_applies (is_basic reading) f.cl (4 ∷ 12 ∷ 12 ∷ 12 ∷ 12 ∷ []) refl,
-      where_applies (ltb f.cm 3) f.cu (1 ∷ 1 ∷ 1 ∷ 1 ∷ 1 ∷ []) refl,
-      where_applies (leb 3 f.cm) f.cu (2 ∷ 2 ∷ 2 ∷ 2 ∷ 2 ∷ []) refl,
-      where_applies (not (ca_to_w f)) f.ca (0 ∷ 1 ∷ 2 ∷ 3 ∷ 6 ∷ []) refl,
-      where_applies (is_basic reading) f.cs (5 ∷ 15 ∷ 15 ∷ 15 ∷ 15 ∷ []) refl,
-    ) (simp or_self_left)
+-- whether all of its codes have a hit
+abbrev pub row_hit : Row → Bool
+row_hit r = hit r.1 r.2 r.3 0
 
--- the codes as the scan has them, from what each test gave
-pub found_of : (reading : Reading) (f : Fields) (basic : Bool) (ch cl cu_write cu_read ca cs : ℕ) → basic ≡ is_basic reading
-    → ch ≡ cond (not basic) f.ch 255 → cl ≡ cond basic f.cl 255 → cu_write ≡ cond (ltb f.cm 3) f.cu 255 → cu_read ≡ cond (leb 3 f.cm) f.cu 255
-    → ca ≡ cond (not (ca_to_w f)) f.ca 255 → cs ≡ cond basic f.cs 255
-    → found (f.ch ∷ ch ∷ f.cl ∷ cl ∷ f.cm ∷ cu_write ∷ cu_read ∷ ca ∷ f.aa ∷ f.ak ∷ f.cd ∷ f.cs ∷ cs ∷ f.asb ∷ []) 0 14 ≡ unmodelled_of reading f
-found_of reading f basic ch cl cu_write cu_read ca cs is h l w r a s =
-    let ch_is = h ∙ λ i. cond (not (is i)) f.ch 255 in
-    let cl_is = l ∙ λ i. cond (is i) f.cl 255 in
-    let cs_is = s ∙ λ i. cond (is i) f.cs 255 in
-    (λ i. found (f.ch ∷ ch_is i ∷ f.cl ∷ cl_is i ∷ f.cm ∷ w i ∷ r i ∷ a i ∷ f.aa ∷ f.ak ∷ f.cd ∷ f.cs ∷ cs_is i ∷ f.asb ∷ []) 0 14) ∙ found_is reading f
+-- the place of the first row, from the given one on, that has its code
+pub found : List Row → ℕ → Option ℕ
+found rows row = first (map check_of (drop row rows))
+
+next_row : (l : List Row) (i : ℕ) (d : Row) → i < length l → row_hit (get_or l i d) ≡ false → first (map check_of (drop (suc i) l)) ≡ first (map check_of (drop i l))
+unfolding hit
+next_row [] i d h e = absurd (not-suc-le-zero h)
+next_row (r ∷ l) zero d h e = rw e
+next_row (r ∷ l) (suc i) d h e = next_row l i d (le_of_suc-le-suc h) e
+
+pub found_on : (l : List Row) (i : ℕ) (d : Row) → i < length l → row_hit (get_or l i d) ≡ false → found l (i + 1) ≡ found l i
+unfolding found
+found_on l i d h e = rw add-one (next_row l i d h e)
+
+pub found_at : (l : List Row) (i : ℕ) (d : Row) → i < length l → row_hit (get_or l i d) ≡ true → Some (get_or l i d).0 ≡ found l i
+unfolding found hit
+found_at [] i d h e = absurd (not-suc-le-zero h)
+found_at (r ∷ l) zero d h e = rw e
+found_at (r ∷ l) (suc i) d h e = found_at l i d (le_of_suc-le-suc h) e
+
+pub found_end : (l : List Row) (i : ℕ) → length l ≤ i → None ≡ found l i
+unfolding found
+found_end l i h = rw (drop_of_length-le l h)
+
+-- ---- the rows as the scan has them
+
+abbrev pub rows_of : Bool → Fields → List Row
+rows_of basic f =
+    (4, true, f.ch, 4 ∷ 5 ∷ 5 ∷ 5 ∷ 5 ∷ []) ∷
+    (4, not basic, f.ch, 3 ∷ 3 ∷ 3 ∷ 3 ∷ 3 ∷ []) ∷
+    (5, true, f.cl, 3 ∷ 15 ∷ 15 ∷ 15 ∷ 15 ∷ []) ∷
+    (5, basic, f.cl, 4 ∷ 12 ∷ 12 ∷ 12 ∷ 12 ∷ []) ∷
+    (6, true, f.cm, 6 ∷ 7 ∷ 7 ∷ 7 ∷ 7 ∷ []) ∷
+    (7, ltb f.cm 3, f.cu, 1 ∷ 1 ∷ 1 ∷ 1 ∷ 1 ∷ []) ∷
+    (7, leb 3 f.cm, f.cu, 2 ∷ 2 ∷ 2 ∷ 2 ∷ 2 ∷ []) ∷
+    (8, not (eqb f.cl 2), f.ca, 0 ∷ 1 ∷ 2 ∷ 3 ∷ 6 ∷ []) ∷
+    (9, true, f.aa, 1 ∷ 1 ∷ 1 ∷ 1 ∷ 1 ∷ []) ∷
+    (12, true, f.ak, 1 ∷ 1 ∷ 1 ∷ 1 ∷ 1 ∷ []) ∷
+    (15, true, f.cd, 1 ∷ 2 ∷ 3 ∷ 4 ∷ 4 ∷ []) ∷
+    (20, true, f.cs, 14 ∷ 14 ∷ 14 ∷ 14 ∷ 14 ∷ []) ∷
+    (20, basic, f.cs, 5 ∷ 15 ∷ 15 ∷ 15 ∷ 15 ∷ []) ∷
+    (21, true, f.asb, 1 ∷ 1 ∷ 1 ∷ 1 ∷ 1 ∷ []) ∷
+    []
+
+all_five : (l : List Row) → Each (λ (r : Row). length r.3 ≡ 5) l → (i : ℕ) (d : Row) → i < length l → length (get_or l i d).3 ≡ 5
+all_five [] e i d h = absurd (not-suc-le-zero h)
+all_five (r ∷ l) e zero d h = e.0
+all_five (r ∷ l) e (suc i) d h = all_five l e.1 i d (le_of_suc-le-suc h)
+
+-- each has five codes
+pub five : (basic : Bool) (f : Fields) (i : ℕ) (d : Row) → i < 14 → length (get_or (rows_of basic f) i d).3 ≡ 5
+five basic f i d h =
+    all_five (rows_of basic f)
+    (refl, (refl, (refl, (refl, (refl, (refl, (refl, (refl, (refl, (refl, (refl, (refl, (refl, (refl, tt)))))))))))))) i d h
+
+pub found_is : (reading : Reading) (f : Fields) → found (rows_of (is_basic reading) f) 0 ≡ unmodelled_of reading f
+unfolding found unmodelled_of
+found_is reading f = simp or_self_left
+
+pub found_of : (reading : Reading) (f : Fields) (basic : Bool) → basic ≡ is_basic reading → found (rows_of basic f) 0 ≡ unmodelled_of reading f
+found_of reading f basic is = rw is (found_is reading f)

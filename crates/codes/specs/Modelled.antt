@@ -1,5 +1,5 @@
 -- "Codes not listed above are not modelled, nor are AA, AK or AS = 1." Assumes nothing.
-use Rattle.std.specs.Prelude.{ℕ, List, [], ◌∷◌, map, Bool, true, not, ◌&&◌, leb, ltb}
+use Rattle.std.specs.Prelude.{ℕ, List, [], ◌∷◌, map, Bool, true, not, ◌&&◌, leb, ltb, Option}
 use Rattle.digits.specs.Refusal.{Check, first}
 use Rattle.digits.specs.Table.{among}
 use Rattle.word.specs.Layout.{CH, CL, CM, CU, CA, AA, AK, CD, CS, AS}
@@ -43,9 +43,9 @@ code_rows reading f =
     code_row AS true f.asb (1 ∷ []) ∷
     []
 
-abbrev pub row_check : CodeRow → Check
+abbrev pub row_check : CodeRow → Check ℕ
 row_check r = (r.place, r.applies && among r.code r.codes)
 
--- 10 "names the first field in word order": its place, or 0 where all are modelled
-unfoldable pub unmodelled_of : Reading → Fields → ℕ
+-- 10 "names the first field in word order": its place; none where all are modelled
+unfoldable pub unmodelled_of : Reading → Fields → Option ℕ
 unmodelled_of reading f = first (map row_check (code_rows reading f))

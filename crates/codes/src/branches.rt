@@ -1,41 +1,33 @@
 // What X6 and X7 are, by CH and CL.
-ghost use Rattle.std.specs.Prelude.{◌≡◌, false, cond, get_or};
+ghost use Rattle.std.specs.Prelude.{◌≡◌, false, get_or};
 ghost use Rattle.codes.specs.Branches.{high_branches, low_branches};
 
 use crate::{Reading, Tested};
-use digits::bit;
-
-// The first where the store is read as the basic machine's, else the second.
-fn flag_by(basic: bool, flag: bool, other: bool) -> bool
-    ensures { result ≡ cond basic flag other }
-{
-    if basic { flag } else { other }
-}
+use digits::{bit, first_of};
 
 // A table of the paper, read at a code; past its end it says no.
 fn flag_at(table: [bool; 16], code: u8) -> bool
     ensures { result ≡ get_or table code false }
 {
-    let at = code as usize;
-    if at < 16 { table[at] } else { false }
+    table.get(code as usize).copied().unwrap_or(false)
 }
 
-// X6 by CH.
+// X6 by CH. All sixteen are worked out and one is taken, here and for CL: by `match` the tour is slower (docs/BENCHMARK.md).
 pub fn high_branch(reading: Reading, ch: u8, t: Tested) -> bool
     ensures { result ≡ get_or (high_branches reading t) ch false }
 {
-    let basic = crate::is_basic(reading);
+    let basic = reading.is_basic();
     flag_at(
         [
             false,
             true,
             bit(t.r, 0),
-            flag_by(basic, !bit(t.v, 6) & !bit(t.v, 7), false),
+            first_of(basic, !bit(t.v, 6) & !bit(t.v, 7), false),
             false,
             false,
             t.ac,
             bit(t.s, 0),
-            flag_by(basic, bit(t.s, 1), bit(t.r, 2)),
+            first_of(basic, bit(t.s, 1), bit(t.r, 2)),
             bit(t.s, 2),
             bit(t.s, 4),
             bit(t.s, 6),
@@ -52,22 +44,22 @@ pub fn high_branch(reading: Reading, ch: u8, t: Tested) -> bool
 pub fn low_branch(reading: Reading, cl: u8, t: Tested) -> bool
     ensures { result ≡ get_or (low_branches reading t) cl false }
 {
-    let basic = crate::is_basic(reading);
+    let basic = reading.is_basic();
     flag_at(
         [
             false,
             true,
             true,
             false,
-            flag_by(basic, false, bit(t.g, 1)),
+            first_of(basic, false, bit(t.g, 1)),
             digits::both_decimal(t.r),
-            flag_by(basic, t.one_bc, bit(t.r, 1)),
+            first_of(basic, t.one_bc, bit(t.r, 1)),
             t.z0,
             bit(t.g, 7),
             bit(t.s, 3),
             bit(t.s, 5),
             bit(t.s, 7),
-            flag_by(basic, false, bit(t.r, 3)),
+            first_of(basic, false, bit(t.r, 3)),
             bit(t.g, 3),
             bit(t.g, 5),
             false,

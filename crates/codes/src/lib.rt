@@ -19,6 +19,14 @@ pub enum Reading {
     Compatibility,
 }
 
+impl Reading {
+    fn is_basic(self) -> bool
+        ensures { result ≡ is_basic self }
+    {
+        matches!(self, Reading::Basic)
+    }
+}
+
 // What a branch may test.
 #[derive(Clone, Copy)]
 pub struct Tested {
@@ -29,13 +37,4 @@ pub struct Tested {
     pub ac: bool,
     pub one_bc: bool,
     pub z0: bool,
-}
-
-fn is_basic(reading: Reading) -> bool
-    ensures { result ≡ is_basic reading }
-{
-    match reading {
-        Reading::Basic => true,
-        Reading::Compatibility => false,
-    }
 }

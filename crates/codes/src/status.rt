@@ -9,7 +9,7 @@ use digits::{first_of, with_bit};
 pub fn changed(reading: Reading, cs: u8, res: u8, s: u8) -> u8
     ensures { result ≡ get_or (statuses reading res s) cs s }
 {
-    let basic = crate::is_basic(reading);
+    let basic = reading.is_basic();
     let s5 = res % 16 == 0;
     let s4 = res / 16 == 0;
     match cs {

@@ -1,13 +1,14 @@
 -- The entry's tests as the code makes them, where no sum of wild numbers is formed; and what they leave. Assumes nothing.
 use Prim.Native.Nat.{ℕ, suc, ◌+◌, ◌-◌, ◌<◌, ◌≤◌}
-use mathlib.Core.Path.{◌≡◌, refl, sym}
+use mathlib.Core.Path.{◌≡◌, refl}
 use mathlib.Core.Bool.{Bool, true, false, not, ◌&&◌, ◌||◌}
 use native.Mathlib.Omega.{arith}
 use borrow.Author.Tests.{eqb-true, eqb-false, ltb-true, ltb-false, lt-ltb}
 use lib.Dec.{eqb, ltb}
 use Rattle.digits.specs.Refusal.{first}
 use Rattle.digits.specs.Sizes.{storage_wrong}
-use Rattle.digits.proofs.Refusals.{None, first_none}
+use Rattle.std.specs.Prelude.{None}
+use Rattle.digits.proofs.Refusals.{NoneHolds, first_none}
 use Rattle.digits.proofs.Sizes.{right_storage}
 use Rattle.digits.proofs.Truth.{zero_one, neither, same_test}
 use Rattle.storage.specs.declared.Fence.{Fence}
@@ -15,10 +16,7 @@ use Rattle.decimal.specs.Entry.{past_end, not_within, overlap, field_checks, add
 use Rattle.decimal.proofs.Pairs.{Lies}
 use Rattle.decimal.proofs.Pass2.{Clear}
 
--- a field as long as main storage or longer, and a shorter one
-pub past_long : (main start n : ℕ) → main < n → true ≡ past_end main start n
-past_long main start n h = sym (lt-ltb main (start + n) (omega arith))
-
+-- a field no longer than main storage
 pub past_is : (main start n : ℕ) → n ≤ main → ltb (main - n) start ≡ past_end main start n
 past_is main start n h = same_test (suc (main - n)) start (suc main) (start + n) (λ y. omega arith) (λ n. omega arith)
 
@@ -74,7 +72,7 @@ lies_of fence main a n h =
     record { in_main = ltb-false main (a + n) past; low = ltb-false a fence.start low; high = ltb-false fence.end (a + n) high }
 
 -- past 1, and past 12, 13 and 14
-pub checked : (fence : Fence) (main local a b n : ℕ) → storage_wrong main local ≡ false → None (field_checks fence main a b n) → Fit fence main local a b n
+pub checked : (fence : Fence) (main local a b n : ℕ) → storage_wrong main local ≡ false → NoneHolds (field_checks fence main a b n) → Fit fence main local a b n
 checked fence main local a b n sizes none =
     let (short, long) = neither (ltb n 1) (ltb 16 n) none.0 in
     let (past-a, past-b) = neither (not_within fence main a n) (not_within fence main b n) none.1.0 in
@@ -89,7 +87,7 @@ checked fence main local a b n sizes none =
     }
 
 -- of the entry's own list
-pub accepted : (fence : Fence) (main local a b n : ℕ) → first (add_checks fence main local a b n) ≡ 0 → Fit fence main local a b n
+pub accepted : (fence : Fence) (main local a b n : ℕ) → first (add_checks fence main local a b n) ≡ None → Fit fence main local a b n
 accepted fence main local a b n e =
-    let none = first_none (add_checks fence main local a b n) tt e in
+    let none = first_none (add_checks fence main local a b n) e in
     checked fence main local a b n none.0 none.1

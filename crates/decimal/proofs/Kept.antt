@@ -6,12 +6,13 @@ use mathlib.Core.Bool.{Bool, true, false, cond}
 use mathlib.Core.Logic.{◌↔◌}
 use native.Mathlib.Omega.{arith}
 use borrow.Author.Tests.{eq-eqb}
-use lib.Dec.{T, eqb}
+use lib.Dec.{eqb}
 use lib.ListN.{length}
+use Rattle.std.specs.Prelude.{Option, Some, None}
 use Rattle.digits.specs.Bits.{one, bit}
 use Rattle.digits.specs.Refusal.{Check, first, answer, Given}
-use Rattle.digits.proofs.Refusals.{numbered, exactly}
-use Rattle.digits.proofs.Refusals as R
+use Rattle.digits.specs.declared.refusal.Refusal.{Refusal}
+use Rattle.digits.proofs.Refusals.{exactly}
 use Rattle.digits.proofs.Truth.{zero_one, both}
 use Rattle.storage.specs.declared.Fence.{Fence}
 use Rattle.machine.specs.Cycle.{Outcome, outcome}
@@ -48,10 +49,10 @@ pub record Finishes (done : ℕ) (run : Outcome Finished) (n : ℕ) (P : Added �
   pub few : count ≤ bound n
   pub holds : P (answered_at done (record { ending = Stopped; state = x; count = count })) main' local'
 
-never_refused : (done : ℕ) (f : Finished) (number : ℕ) → answered_at done f ≡ Refused number → ⊥
-never_refused done f number = by (eqb f.state.wx done)
+never_refused : (done : ℕ) (f : Finished) (why : Refusal) → answered_at done f ≡ Refused why → ⊥
+never_refused done f why = by (eqb f.state.wx done)
   where
-    by : (t : Bool) → cond t (Summed (bit f.state.s 3) f.count) (BadDigit f.count) ≡ Refused number → ⊥
+    by : (t : Bool) → cond t (Summed (bit f.state.s 3) f.count) (BadDigit f.count) ≡ Refused why → ⊥
     by true e = zero_one cc
     by false e = zero_one cc
 
@@ -62,30 +63,30 @@ count_in_lem done f = by (eqb f.state.wx done)
     by true = refl
     by false = refl
 
-module _ (done : ℕ) (checks : List Check) (known : T (numbered checks)) (run : Outcome Finished) (main local : List ℕ) (n : ℕ) where
-  abbrev comes : ℕ → Outcome Added
-  comes k = answer k (λ (number : ℕ). outcome (Refused number) main local) (from_run done run)
+module _ (done : ℕ) (checks : List (Check Refusal)) (run : Outcome Finished) (main local : List ℕ) (n : ℕ) where
+  abbrev comes : Option Refusal → Outcome Added
+  comes k = answer k (λ (why : Refusal). outcome (Refused why) main local) (from_run done run)
 
-  the_answer : (k : ℕ) → (comes k).answer ≡ answer k Refused (answered_at done run.answer)
-  the_answer zero = refl
-  the_answer (suc k) = refl
+  the_answer : (k : Option Refusal) → (comes k).answer ≡ answer k Refused (answered_at done run.answer)
+  the_answer None = refl
+  the_answer (Some why) = refl
 
-  refused_exactly : (number : ℕ) → ((comes (first checks)).answer ≡ Refused number) ↔ Given number checks
-  refused_exactly number =
-      let e = exactly (record { number = λ m k p. cc; apart = never_refused done }) run.answer checks known number in
+  refused_exactly : (why : Refusal) → ((comes (first checks)).answer ≡ Refused why) ↔ Given why checks
+  refused_exactly why =
+      let e = exactly (record { which = λ q r p. cc; apart = never_refused done }) run.answer checks why in
       (λ p. e.0 (sym (the_answer (first checks)) ∙ p), λ g. the_answer (first checks) ∙ e.1 g)
 
-  refused_untouched : (k number : ℕ) → (comes k).answer ≡ Refused number → Untouched main local (comes k).main (comes k).local
-  refused_untouched zero number e = absurd (never_refused done run.answer number e)
-  refused_untouched (suc k) number e = record { main_kept = refl; local_kept = refl }
+  refused_untouched : (k : Option Refusal) (why : Refusal) → (comes k).answer ≡ Refused why → Untouched main local (comes k).main (comes k).local
+  refused_untouched None why e = absurd (never_refused done run.answer why e)
+  refused_untouched (Some k) why e = record { main_kept = refl; local_kept = refl }
 
-  finished : (P : Added → List ℕ → List ℕ → Type 0) → first checks ≡ 0 → Finishes done run n P → let o = comes (first checks) in P o.answer o.main o.local
+  finished : (P : Added → List ℕ → List ℕ → Type 0) → first checks ≡ None → Finishes done run n P → let o = comes (first checks) in P o.answer o.main o.local
   finished P e f =
       subst (λ (o : Outcome Added). P o.answer o.main o.local) (ap (from_run done) (sym f.is) ∙ ap comes (sym e)) f.holds
 
-  few : (k : ℕ) → first checks ≡ k → (first checks ≡ 0 → run.answer.count ≤ bound n) → cycles_in (comes (first checks)).answer ≤ bound n
-  few zero e h = rw (e, count_in_lem done run.answer) (h e)
-  few (suc k) e h = rw e (omega arith)
+  few : (k : Option Refusal) → first checks ≡ k → (first checks ≡ None → run.answer.count ≤ bound n) → cycles_in (comes (first checks)).answer ≤ bound n
+  few None e h = rw (e, count_in_lem done run.answer) (h e)
+  few (Some k) e h = rw e (omega arith)
 
   module _ (good : Bool) (Good Bad : Added → List ℕ → List ℕ → Type 0) (sums : Accepted checks → good ≡ true → Finishes done run n Good)
       (bad : Accepted checks → good ≡ false → Finishes done run n Bad) where
@@ -111,15 +112,9 @@ module _ (done : ℕ) (checks : List Check) (known : T (numbered checks)) (run :
           few = few (first checks) refl (either_end (λ (f : Finished). f.count ≤ bound n) (λ x k less. less));
         }
 
-  -- for the code: what it answers is the entry's answer
-  pub refuses : (k : ℕ) → k ≡ first checks → (k ≡ 0 → ⊥) → outcome (Refused k) main local ≡ entry_by done checks run main local
-  refuses k e h = sym (R.refuses (λ (number : ℕ). outcome (Refused number) main local) (from_run done run) k h) ∙ ap comes e
-
-  pub accepts : first checks ≡ 0 → from_run done run ≡ entry_by done checks run main local
+  -- past the checks the entry's answer is its run's
+  pub accepts : first checks ≡ None → from_run done run ≡ entry_by done checks run main local
   accepts e = ap comes (sym e)
-
-pub from_run_lem : (done : ℕ) (f : Finished) (m l : List ℕ) (r : Outcome Finished) {x : Added} → x ≡ answered_at done f → outcome f m l ≡ r → outcome x m l ≡ from_run done r
-from_run_lem done f m l r e p = ap (λ (y : Added). outcome y m l) e ∙ ap (from_run done) p
 
 -- a program that comes to its stop, or to another
 module _ (fence : Fence) (store main local : List ℕ) (s : State) (n done count : ℕ) (right : Right store (machine s main local)) (size : n ≤ 16) (less : count < bound n) where
@@ -180,14 +175,14 @@ module _ (fence : Fence) (main local : List ℕ) (a b k : ℕ) (c : Bool) (f : F
       stops_short fence shipped main local (start a b (suc k) c) (suc k) SUMMED (2 + until_bad main a b (suc k)) (right fence main local a b k c f) f.few (omega (arith, until_le main (suc k) a b)) (spots fence main local a b k c f d)
 
 -- in a fence, by any list of checks past which the fields fit
-module _ (checks : List Check) (known : T (numbered checks)) (fence : Fence) (main local : List ℕ) where
+module _ (checks : List (Check Refusal)) (fence : Fence) (main local : List ℕ) where
   kept : (a b n : ℕ) (c : Bool) → (Accepted checks → Fit fence (length main) (length local) a b n)
       → let o = entry_by SUMMED checks (run_for fence main local a b n c) main local in PromiseBy checks fence main local a b n c o.answer o.main o.local
   kept a b zero c fit =
-      keeps SUMMED checks known (run_for fence main local a b 0 c) main local 0 (both_fields main a b 0) (Sums main local a b 0 c) (Bad (2 + until_bad main a b 0) main local)
+      keeps SUMMED checks (run_for fence main local a b 0 c) main local 0 (both_fields main a b 0) (Sums main local a b 0 c) (Bad (2 + until_bad main a b 0) main local)
       (λ e d. absurd (no_bytes (fit e))) (λ e d. absurd (no_bytes (fit e)))
   kept a b (suc k) c fit =
-      keeps SUMMED checks known (run_for fence main local a b (suc k) c) main local (suc k) (both_fields main a b (suc k)) (Sums main local a b (suc k) c) (Bad (2 + until_bad main a b (suc k)) main local)
+      keeps SUMMED checks (run_for fence main local a b (suc k) c) main local (suc k) (both_fields main a b (suc k)) (Sums main local a b (suc k) c) (Bad (2 + until_bad main a b (suc k)) main local)
       (λ e. sums_end fence main local a b k c (fit e)) (λ e. bad_end fence main local a b k c (fit e))
 
   pub promised : (a b n : ℕ) (c : Bool) → (Accepted checks → Fit fence (length main) (length local) a b n) → (r : Added) (m l : List ℕ)

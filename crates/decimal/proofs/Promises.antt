@@ -4,7 +4,9 @@ use mathlib.Core.Path.{◌≡◌, refl}
 use mathlib.Core.List.{List, [], ◌∷◌}
 use mathlib.Core.Bool.{true}
 use lib.Count.{ones}
+use Rattle.std.specs.Prelude.{Some, None}
 use Rattle.digits.specs.Refusal.{first}
+use Rattle.digits.specs.declared.refusal.Refusal.TheVariants as R
 use Rattle.digits.proofs.Sole.{sole}
 use Rattle.word.specs.Word.{packed, in_width}
 use Rattle.codes.specs.Seven.{uses_none}
@@ -59,7 +61,7 @@ pub to_check_by :
     ∷ first (add_checks whole 65536 256 15 0 16)
     ∷ first (add_checks whole 65536 255 65521 0 17)
     ∷ []
-    ≡ 0 ∷ 12 ∷ 12 ∷ 0 ∷ 13 ∷ 0 ∷ 14 ∷ 1 ∷ []
+    ≡ None ∷ Some R.DecimalLength ∷ Some R.DecimalLength ∷ None ∷ Some R.DecimalField ∷ None ∷ Some R.Overlap ∷ Some R.Size ∷ []
 to_check_by = refl
 
 -- ---- the shipped words use none of the seven codes of request 7, so that both readings run them alike (`run_alike`)

@@ -7,12 +7,13 @@ use borrow.Author.Tests.{lt-leb, not-true, eqb-true}
 use lib.Dec.{T, eqb, ltb, leb, ltb→lt, eqb→eq}
 use lib.ListN.{length, get_or}
 use mir.Facts.{and_yes}
+use Rattle.std.specs.Prelude.{Option, Some, None, Result, Ok, Err}
+use Rattle.std.specs.Option.{is_none}
 use Rattle.digits.specs.Bits.{one}
 use Rattle.digits.specs.Table.{among}
+use Rattle.digits.specs.declared.refusal.Refusal.{Refusal}
 use Rattle.word.specs.Word.{packed}
 use Rattle.word.specs.declared.Fields.{Fields}
-use Rattle.word.specs.declared.Packed.{Packed}
-use Rattle.word.specs.declared.Packed.TheVariants as P
 use Rattle.word.proofs.Trips.{packed_apart}
 use Rattle.storage.specs.Storage.{outside, main_after, local_after}
 use Rattle.storage.specs.declared.Fence.{Fence}
@@ -75,7 +76,7 @@ idle wx s = made (s.i, s.j) (s.u, s.v) s.l s.t wx false false false 0 s
 -- a word of the store, by its fields
 pub record Holds (store : List ℕ) (a : ℕ) (f : Fields) : Type 0 where
   pub inside : leb (length store) a ≡ false
-  pub word : packed f a ≡ P.Word (get_or store a 0)
+  pub word : packed f a ≡ Ok (get_or store a 0)
 
 abbrev pub fields_at : List Microword → ℕ → Fields
 fields_at program a = (microword_at program a).fields
@@ -89,13 +90,13 @@ abbrev pub addresses : List Microword → List ℕ
 addresses program = map (λ (w : Microword). w.address) program
 
 -- packing gives the word
-abbrev gives : Packed → ℕ → Bool
-gives (P.Word given) word = eqb given word
-gives (P.Refused number) word = false
+abbrev gives : Result ℕ Refusal → ℕ → Bool
+gives (Ok given) word = eqb given word
+gives (Err why) word = false
 
-is_given : (p : Packed) (word : ℕ) → T (gives p word) → p ≡ P.Word word
-is_given (P.Word given) word t = ap P.Word (eqb→eq given word t)
-is_given (P.Refused number) word t = absurd t
+is_given : (p : Result ℕ Refusal) (word : ℕ) → T (gives p word) → p ≡ Ok word
+is_given (Ok given) word t = ap Ok (eqb→eq given word t)
+is_given (Err why) word t = absurd t
 
 -- one test to compute
 abbrev pub right_word : List ℕ → List Microword → ℕ → Bool
@@ -147,9 +148,13 @@ T_true : (b : Bool) → T b → b ≡ true
 T_true true t = refl
 T_true false t = absurd t
 
+none_is : (k : Option ℕ) → T (is_none k) → k ≡ None
+none_is None t = refl
+none_is (Some place) t = absurd t
+
 -- it neither stops nor is refused by 10
 abbrev runs_on : Fields → Bool
-runs_on f = not (stops f) && eqb (unmodelled_of Basic f) 0
+runs_on f = not (stops f) && is_none (unmodelled_of Basic f)
 
 module _ (fence : Fence) (store : List ℕ) (a : ℕ) (f : Fields) (w : Holds store a f) (m : Machine) (right : Right store m) (here : m.state.wx ≡ a) where
   by_fields : step_of fence Basic f m.main m.local m.state ≡ cycle_in fence Basic store m.main m.local m.state
@@ -160,8 +165,8 @@ module _ (fence : Fence) (store : List ℕ) (a : ℕ) (f : Fields) (w : Holds st
   runs : T (runs_on f) → outside fence (length m.main) (access_in f m.state) ≡ false → Leads (basic fence store) m (leaving f m (main_left f m))
   unfolding ran_of
   runs t o =
-      let (going, modelled) = and_yes (not (stops f)) (eqb (unmodelled_of Basic f) 0) t in
-      sym (on_ran fence Basic f m.main m.local m.state (not-true (stops f) (T_true (not (stops f)) going)) (eqb→eq (unmodelled_of Basic f) 0 modelled) o) ∙ by_fields
+      let (going, modelled) = and_yes (not (stops f)) (is_none (unmodelled_of Basic f)) t in
+      sym (on_ran fence Basic f m.main m.local m.state (not-true (stops f) (T_true (not (stops f)) going)) (none_is (unmodelled_of Basic f) modelled) o) ∙ by_fields
 
   pub halts : T (stops f) → Halts (basic fence store) m
   halts t = sym (on_stop fence Basic f m.main m.local m.state (T_true (stops f) t)) ∙ by_fields

@@ -3,6 +3,8 @@ use Rattle.std.specs.Prelude.{ℕ, ◌+◌, ◌*◌, ◌/◌, ◌%◌, List, [],
 use Rattle.digits.specs.Bits.{bit, with_bit}
 use Rattle.digits.specs.Refusal.{Check, first, answer}
 use Rattle.digits.specs.Sizes.{storage_wrong}
+use Rattle.digits.specs.declared.refusal.Refusal.{Refusal}
+use Rattle.digits.specs.declared.refusal.Refusal.TheVariants as R
 use Rattle.codes.specs.declared.Reading.TheVariants.{Basic}
 use Rattle.storage.specs.Storage.{whole}
 use Rattle.storage.specs.declared.Fence.{Fence}
@@ -31,12 +33,13 @@ abbrev pub overlap : ℕ → ℕ → ℕ → Bool
 overlap a b n = not (eqb a b) && (ltb a (b + n) && ltb b (a + n))
 
 -- "One length serves both fields, a start is a field's lowest address"
-abbrev pub field_checks : Fence → ℕ → ℕ → ℕ → ℕ → List Check
-field_checks fence main a b n = (12, decimal_length_wrong n) ∷ (13, not_within fence main a n || not_within fence main b n) ∷ (14, overlap a b n) ∷ []
+abbrev pub field_checks : Fence → ℕ → ℕ → ℕ → ℕ → List (Check Refusal)
+field_checks fence main a b n =
+    (R.DecimalLength, decimal_length_wrong n) ∷ (R.DecimalField, not_within fence main a n || not_within fence main b n) ∷ (R.Overlap, overlap a b n) ∷ []
 
 -- "The decimal entry checks 1 (main and local), 12, 13, 14."
-abbrev pub add_checks : Fence → ℕ → ℕ → ℕ → ℕ → ℕ → List Check
-add_checks fence main local a b n = (1, storage_wrong main local) ∷ field_checks fence main a b n
+abbrev pub add_checks : Fence → ℕ → ℕ → ℕ → ℕ → ℕ → List (Check Refusal)
+add_checks fence main local a b n = (R.Size, storage_wrong main local) ∷ field_checks fence main a b n
 
 -- "from WX 0 with latches off, nothing arriving, main selected, and all registers zero but those that carry addresses, length and carry":
 -- the first field's start in I and J, the second's in U and V, the length in L, and this in S
@@ -92,8 +95,8 @@ abbrev pub from_run : ℕ → Outcome Finished → Outcome Added
 from_run done r = outcome (answered_at done r.answer) r.main r.local
 
 -- an entry, by its checks and its run: refused, nothing is touched
-abbrev pub entry_by : ℕ → List Check → Outcome Finished → List ℕ → List ℕ → Outcome Added
-entry_by done checks run main local = answer (first checks) (λ (number : ℕ). outcome (Refused number) main local) (from_run done run)
+abbrev pub entry_by : ℕ → List (Check Refusal) → Outcome Finished → List ℕ → List ℕ → Outcome Added
+entry_by done checks run main local = answer (first checks) (λ (r : Refusal). outcome (Refused r) main local) (from_run done run)
 
 -- an entry in a fence
 abbrev pub entry_of : ℕ → Fence → Outcome Finished → List ℕ → List ℕ → ℕ → ℕ → ℕ → Outcome Added

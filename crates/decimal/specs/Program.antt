@@ -1,9 +1,8 @@
 -- The shipped words: a decimal add in two passes. Assumes nothing.
-use Rattle.std.specs.Prelude.{ℕ, List, [], ◌∷◌, map, get_or}
+use Rattle.std.specs.Prelude.{ℕ, List, [], ◌∷◌, map, get_or, Result, Ok, Err}
+use Rattle.digits.specs.declared.refusal.Refusal.{Refusal}
 use Rattle.word.specs.Word.{packed}
 use Rattle.word.specs.declared.Fields.{Fields}
-use Rattle.word.specs.declared.Packed.{Packed}
-use Rattle.word.specs.declared.Packed.TheVariants as P
 
 -- a microword, and where it stands
 pub record Microword : Type 0 where
@@ -65,9 +64,9 @@ program =
     []
 
 -- the number that packing gives
-abbrev pub numeral : Packed → ℕ
-numeral (P.Word word) = word
-numeral (P.Refused number) = 0
+abbrev pub numeral : Result ℕ Refusal → ℕ
+numeral (Ok word) = word
+numeral (Err r) = 0
 
 -- the words of a program: each microword's fields, packed for its address
 abbrev pub packed_words : List Microword → List ℕ

@@ -1,8 +1,9 @@
 -- Demand 3: what the decimal add comes to. Assumes nothing.
-use Rattle.std.specs.Prelude.{ℕ, zero, suc, ◌+◌, ◌*◌, ◌/◌, ◌%◌, ◌^◌, ◌<◌, ◌≤◌, ◌≡◌, List, Bool, true, false, cond, ◌&&◌, ◌⊎◌, ◌↔◌, length, get_or}
+use Rattle.std.specs.Prelude.{ℕ, zero, suc, ◌+◌, ◌*◌, ◌/◌, ◌%◌, ◌^◌, ◌<◌, ◌≤◌, ◌≡◌, List, Bool, true, false, cond, ◌&&◌, ◌⊎◌, ◌↔◌, length, get_or, None}
 use Rattle.digits.specs.Bits.{one}
 use Rattle.digits.specs.Digits.{both_decimal}
 use Rattle.digits.specs.Refusal.{Check, first, Given}
+use Rattle.digits.specs.declared.refusal.Refusal.{Refusal}
 use Rattle.storage.specs.Storage.{whole}
 use Rattle.storage.specs.declared.Fence.{Fence}
 use Rattle.machine.specs.Cycle.{Outcome}
@@ -23,7 +24,7 @@ until_bad main a b (suc n) =
 abbrev pub cycles_in : Added → ℕ
 cycles_in (Summed carry count) = count
 cycles_in (BadDigit count) = count
-cycles_in (Refused number) = 0
+cycles_in (Refused r) = 0
 
 -- both fields and the carry
 abbrev pub exact_sum : List ℕ → ℕ → ℕ → ℕ → Bool → ℕ
@@ -59,16 +60,16 @@ pub record Untouched (main local main' local' : List ℕ) : Type 0 where
 abbrev pub both_fields : List ℕ → ℕ → ℕ → ℕ → Bool
 both_fields main a b n = decimal_field main a n && decimal_field main b n
 
--- no number of the entry's list is given
-abbrev pub Accepted : List Check → Type 0
-Accepted checks = first checks ≡ 0
+-- no refusal of the entry's list is given
+abbrev pub Accepted : List (Check Refusal) → Type 0
+Accepted checks = first checks ≡ None
 
 -- what an entry promises, whatever its words: n is the fields' length, r the answer, main' and local' the storages afterwards; by its checks, its
 -- run, whether both fields are good, and what it then leaves
-pub record Keeps (checks : List Check) (run : Outcome Finished) (good : Bool) (Good Bad : Added → List ℕ → List ℕ → Type 0) (main local : List ℕ) (n : ℕ) (r : Added) (main' local' : List ℕ) : Type 0 where
-  -- each number is given exactly when the list of checks gives it, and then nothing is touched
-  pub refused : (number : ℕ) → (r ≡ Refused number) ↔ Given number checks
-  pub untouched : (number : ℕ) → r ≡ Refused number → Untouched main local main' local'
+pub record Keeps (checks : List (Check Refusal)) (run : Outcome Finished) (good : Bool) (Good Bad : Added → List ℕ → List ℕ → Type 0) (main local : List ℕ) (n : ℕ) (r : Added) (main' local' : List ℕ) : Type 0 where
+  -- each refusal is given exactly when the list of checks gives it, and then nothing is touched
+  pub refused : (why : Refusal) → (r ≡ Refused why) ↔ Given why checks
+  pub untouched : (why : Refusal) → r ≡ Refused why → Untouched main local main' local'
   -- accepted, it comes to one of two ends
   pub sums : Accepted checks → good ≡ true → Good r main' local'
   pub bad : Accepted checks → good ≡ false → Bad r main' local'
@@ -78,7 +79,7 @@ pub record Keeps (checks : List Check) (run : Outcome Finished) (good : Bool) (G
   pub few : cycles_in r ≤ bound n
 
 -- the decimal entry's, by its checks and its fence; a and b are the fields' starts
-abbrev pub PromiseBy : List Check → Fence → List ℕ → List ℕ → ℕ → ℕ → ℕ → Bool → Added → List ℕ → List ℕ → Type 0
+abbrev pub PromiseBy : List (Check Refusal) → Fence → List ℕ → List ℕ → ℕ → ℕ → ℕ → Bool → Added → List ℕ → List ℕ → Type 0
 PromiseBy checks fence main local a b n carry r main' local' =
     Keeps checks (run_for fence main local a b n carry) (both_fields main a b n) (Sums main local a b n carry) (Bad (2 + until_bad main a b n) main local) main local n r main' local'
 

@@ -11,16 +11,17 @@ ghost use Rattle.decimal.specs.Entry.{past_end, not_within, overlap, add_checks,
 ghost use Rattle.decimal.specs.Promise.{PromiseOf, Promise};
 
 use codes::Reading;
+use digits::Refusal;
 use machine::State;
 use run::Finished;
 use storage::Fence;
 
-// Summed has the carry and the count of cycles, a bad digit the count, a refusal its number.
+// Summed has the carry and the count of cycles, a bad digit the count, a refusal why. Not a Result: a bad digit is an end of the run beside the sum, and no refusal.
 #[derive(Clone, Copy)]
 pub enum Added {
     Summed(bool, u32),
     BadDigit(u32),
-    Refused(u8),
+    Refused(Refusal),
 }
 
 // The shipped words' stop for summed.
@@ -62,54 +63,60 @@ pub fn words() -> [u64; 21]
 fn past_end(main: usize, start: usize, length: usize) -> bool
     ensures { result ≡ past_end main start length }
 {
-    if main < length {
-        return true;
-    }
-    main - length < start
+    main < length || main - length < start
 }
 
 // 13, of one field: it is not wholly in main storage and in the fence.
 fn not_within(fence: Fence, main: usize, start: usize, length: usize) -> bool
     ensures { result ≡ not_within fence main start length }
 {
-    let past = past_end(main, start, length);
-    past | ((start < fence.start) | past_end(fence.end, start, length))
-}
-
-// How far apart two addresses are.
-fn distance(a: usize, b: usize) -> usize
-    ensures { result ≡ (a - b) + (b - a) }
-{
-    if a < b { b - a } else { a - b }
+    past_end(main, start, length) || start < fence.start || past_end(fence.end, start, length)
 }
 
 // 14: the fields overlap and do not start together.
 fn overlap(a: usize, b: usize, length: usize) -> bool
     ensures { result ≡ overlap a b length }
 {
-    (a != b) & (distance(a, b) < length)
+    a != b && a.abs_diff(b) < length
 }
 
-// 1, 12, 13, 14, or 0.
-fn refusal(fence: Fence, main: usize, local: usize, a: usize, b: usize, length: usize) -> u8
+// 1, 12, 13, 14, or none.
+fn refusal(
+    fence: Fence,
+    main: usize,
+    local: usize,
+    a: usize,
+    b: usize,
+    length: usize,
+) -> Option<Refusal>
     ensures { result ≡ first (add_checks fence main local a b length) }
 {
-    let fourteen = digits::first_of(overlap(a, b, length), 14, 0);
-    let outside = not_within(fence, main, a, length) | not_within(fence, main, b, length);
-    let thirteen = digits::first_of(outside, 13, fourteen);
-    let twelve = digits::first_of((length < 1) | (16 < length), 12, thirteen);
-    digits::first_of(digits::storage_wrong(main, local), 1, twelve)
+    if digits::storage_wrong(main, local) {
+        return Some(Refusal::Size);
+    }
+    if length < 1 || 16 < length {
+        return Some(Refusal::DecimalLength);
+    }
+    if not_within(fence, main, a, length) || not_within(fence, main, b, length) {
+        return Some(Refusal::DecimalField);
+    }
+    if overlap(a, b, length) {
+        return Some(Refusal::Overlap);
+    }
+    None
 }
 
 // The state in which a program over two fields begins.
 pub fn start_with(a: u16, b: u16, length: u8, status: u8) -> State
     ensures { result ≡ start_with a b length status }
 {
+    let [i, j] = a.to_be_bytes();
+    let [u, v] = b.to_be_bytes();
     State {
-        i: (a / 256) as u8,
-        j: (a % 256) as u8,
-        u: (b / 256) as u8,
-        v: (b % 256) as u8,
+        i,
+        j,
+        u,
+        v,
         l: length,
         t: 0,
         d: 0,
@@ -145,14 +152,15 @@ pub fn start(a: u16, b: u16, length: u8, carry: bool) -> State
 pub fn answered_at(f: Finished, done: u16) -> Added
     ensures { result ≡ answered_at done f }
 {
-    let count = f.count;
     if f.state.wx == done {
-        return Added::Summed(digits::bit(f.state.s, 3), count);
+        Added::Summed(digits::bit(f.state.s, 3), f.count)
+    } else {
+        Added::BadDigit(f.count)
     }
-    Added::BadDigit(count)
 }
 
 // An entry in a fence: the checks, then the run of a program's words over the two fields, with this in S.
+// The storages and the fields' numbers stay parameters, here and in the adds, as include/panel.h has them and as the promises speak of each.
 pub fn entry(
     fence: Fence,
     store: &[u64],
@@ -166,9 +174,8 @@ pub fn entry(
 ) -> Added
     ensures { outcome result main.new local.new ≡ entry_of done fence (run_in (bound length) fence Basic store.now main.old local.old (start_with first second length status)) main.old local.old first second length }
 {
-    let number = refusal(fence, main.len(), local.len(), first, second, length);
-    if number != 0 {
-        return Added::Refused(number);
+    if let Some(why) = refusal(fence, main.len(), local.len(), first, second, length) {
+        return Added::Refused(why);
     }
     let state = start_with(first as u16, second as u16, length as u8, status);
     let budget = 40 * (length as u32) + 40;
@@ -215,9 +222,5 @@ pub fn add(
     ensures run { outcome result main.new local.new ≡ add_of main.old local.old first second length carry }
     ensures promise { Promise main.old local.old first second length carry result main.new local.new }
 {
-    let whole = Fence {
-        start: 0,
-        end: 65536,
-    };
-    add_in(whole, main, local, first, second, length, carry)
+    add_in(Fence::whole(), main, local, first, second, length, carry)
 }

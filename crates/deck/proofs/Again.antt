@@ -3,7 +3,7 @@ use Rattle.std.proofs.Common.{◌≡◌, ℕ, suc, ◌+◌, ◌-◌, ◌*◌, �
 use Rattle.digits.specs.Line.{join}
 use Rattle.digits.specs.Table.{Each}
 use Rattle.digits.proofs.Lines.{join_parts}
-use Rattle.digits.proofs.Refusals.{None}
+use Rattle.digits.proofs.Refusals.{NoneHolds}
 use Rattle.digits.proofs.Table.{any, each_split}
 use Rattle.digits.proofs.Truth.{both}
 use Rattle.digits.specs.Lists.{joined, in_turn, all_zero}
@@ -68,13 +68,13 @@ pub record Again (b : ℕ) (bs : List (List ℕ)) : Type 0 where
   pub least : length bs * 62 < length (words bs) + 62
   pub most : length (words bs) ≤ length bs * 62
   pub total : length (words bs) ≤ 4096 - 62 * b
-  pub none : None (in_turn word_checks (62 * b) (words bs))
+  pub none : NoneHolds (in_turn word_checks (62 * b) (words bs))
 
 no_words : (bs : List (List ℕ)) → length bs ≡ 0 → words bs ≡ []
 no_words [] e = refl
 no_words (gs ∷ bs) e = absurd (omega arith)
 
-pub again : (b all : ℕ) (bs : List (List ℕ)) → Each Block bs → b + length bs ≡ all → all ≤ 67 → None (in_turn (block_checks all) b bs) → Again b bs
+pub again : (b all : ℕ) (bs : List (List ℕ)) → Each Block bs → b + length bs ≡ all → all ≤ 67 → NoneHolds (in_turn (block_checks all) b bs) → Again b bs
 again b all [] p e m h = record { same = refl; least = omega arith; most = omega arith; total = omega arith; none = tt }
 again b all (gs ∷ bs) p e m h =
     let (here, later) = each_split _ (block_checks all b gs) _ h in
@@ -91,8 +91,8 @@ again b all (gs ∷ bs) p e m h =
         let fill : 0 < n → count_in gs ≡ 62 = λ q. full (count_in gs) (rw (ne_eqb (b + 1) all (λ z. omega arith)) at g.shape.count) in
         let hi = i.most in
         let c = cut (words_in gs) ws (omega arith) (λ q. w ∙ fill (omega arith)) in
-        let last : n ≡ 0 → None (in_turn word_checks (62 * b + length (words_in gs)) ws) = λ q. rw (no_words bs q) tt in
-        let next : 0 < n → None (in_turn word_checks (62 * b + length (words_in gs)) ws) = λ q. let f = fill q in let z : 62 * b + length (words_in gs) ≡ 62 * suc b = omega arith in rw z i.none in
+        let last : n ≡ 0 → NoneHolds (in_turn word_checks (62 * b + length (words_in gs)) ws) = λ q. rw (no_words bs q) tt in
+        let next : 0 < n → NoneHolds (in_turn word_checks (62 * b + length (words_in gs)) ws) = λ q. let f = fill q in let z : 62 * b + length (words_in gs) ≡ 62 * suc b = omega arith in rw z i.none in
         record {
           same = rw (c.0, c.1, block_again all b gs p.0 g, i.same);
           least = ⊎_elim (λ q. omega arith) (λ q. let f = fill q in let lo = i.least in omega arith) (eq-zero-or-pos n);

@@ -3,7 +3,7 @@ use Rattle.std.proofs.Common.{◌≡◌, ℕ, zero, suc, ◌+◌, ◌-◌, ◌*�
 use borrow.Author.Tests.{eqb-false}
 use lib.Seq.{get_or_at}
 use Rattle.digits.specs.Table.{Each}
-use Rattle.digits.proofs.Refusals.{None}
+use Rattle.digits.proofs.Refusals.{NoneHolds}
 use Rattle.digits.proofs.Table.{Below, each_append, each_same, each_take, each_drop}
 use Rattle.digits.specs.Lists.{joined, in_turn, all_zero}
 use Rattle.deck.specs.Deck.{number_in, count_in, reserved_in, words_in, unused_in, check_of, check_in, count_wrong, head_of, word_checks, block_checks, block_of}
@@ -81,7 +81,7 @@ right_count false count p q = rw (eq-eqb count 62 (q refl))
 -- what n blocks from block b on hold, of `all`
 pub record Holds (n b all : ℕ) (ws : List ℕ) : Type 0 where
   pub words : joined (map words_in (made n b ws)) ≡ ws
-  pub none : None (in_turn (block_checks all) b (made n b ws))
+  pub none : NoneHolds (in_turn (block_checks all) b (made n b ws))
   pub blocks : Each Block (made n b ws)
 
 -- n blocks are as many as the words need
@@ -92,7 +92,7 @@ pub record Enough (n b all : ℕ) (ws : List ℕ) : Type 0 where
   pub least : n * 62 < length ws + 62
   pub total : length ws ≤ 4096 - 62 * b
 
-first_block : (n b all : ℕ) (ws : List ℕ) → Enough (suc n) b all ws → None (in_turn word_checks (62 * b) ws) → Good all b (block_of b (take 62 ws))
+first_block : (n b all : ℕ) (ws : List ℕ) → Enough (suc n) b all ws → NoneHolds (in_turn word_checks (62 * b) ws) → Good all b (block_of b (take 62 ws))
 first_block n b all ws e w =
     let few : b < 67 = omega arith in
     let len = length-take 62 ws in
@@ -112,7 +112,7 @@ first_block n b all ws e w =
       words = rw (words_of b (take 62 ws) few fits) (none_take word_checks ws (62 * b) 62 w);
     }
 
-pub holds : (n b all : ℕ) (ws : List ℕ) → Enough n b all ws → None (in_turn word_checks (62 * b) ws) → Below (2 ^ 64) ws → Holds n b all ws
+pub holds : (n b all : ℕ) (ws : List ℕ) → Enough n b all ws → NoneHolds (in_turn word_checks (62 * b) ws) → Below (2 ^ 64) ws → Holds n b all ws
 holds zero b all [] e w p = record { words = refl; none = tt; blocks = tt }
 holds zero b all (x ∷ ws) e w p = absurd (omega arith)
 holds (suc n) b all ws e w p =

@@ -1,8 +1,9 @@
 -- The refusals of a block, test by test, and what a block without one is. Assumes nothing.
-use Rattle.std.proofs.Common.{◌≡◌, ℕ, ◌+◌, ◌*◌, ◌≤◌, Bool, true, false, not, eqb, ltb, List, arith, ltb-false, le-ltb, eq-eqb, ne_eqb, eqb-true}
+use Rattle.std.proofs.Common.{◌≡◌, ℕ, ◌+◌, ◌*◌, ◌≤◌, Bool, true, false, not, eqb, ltb, List, arith, ltb-false, le-ltb, eq-eqb, ne_eqb, eqb-true, Some}
 use borrow.Author.Tests.{eqb-false, not-false}
+use Rattle.digits.specs.declared.refusal.Refusal.TheVariants as R
 use Rattle.digits.specs.Refusal.{first}
-use Rattle.digits.proofs.Refusals.{None}
+use Rattle.digits.proofs.Refusals.{NoneHolds}
 use Rattle.digits.proofs.Truth.{neither}
 use Rattle.digits.specs.Lists.{in_turn, all_zero}
 use Rattle.deck.specs.Deck.{number_in, count_in, reserved_in, words_in, unused_in, check_of, check_in, count_wrong, total_wrong, unused_wrong, shape_wrong, word_checks, block_checks}
@@ -21,19 +22,19 @@ pub full : (count : ℕ) → count_wrong false count ≡ false → count ≡ 62
 full count h = eqb-true count 62 (not-false (eqb count 62) h)
 
 module _ (n b : ℕ) (gs : List ℕ) where
-  pub gives_16 : (number_in gs ≡ b → ⊥) → 16 ≡ first (block_checks n b gs)
+  pub gives_16 : (number_in gs ≡ b → ⊥) → first (block_checks n b gs) ≡ Some R.BlockNumber
   unfolding block_checks
   gives_16 h = rw (ne_eqb (number_in gs) b h)
 
-  pub gives_17 : number_in gs ≡ b → shape_wrong n b gs ≡ true → 17 ≡ first (block_checks n b gs)
+  pub gives_17 : number_in gs ≡ b → shape_wrong n b gs ≡ true → first (block_checks n b gs) ≡ Some R.BlockShape
   unfolding block_checks
   gives_17 h s = rw (eq-eqb (number_in gs) b h, s)
 
-  pub gives_18 : number_in gs ≡ b → shape_wrong n b gs ≡ false → (check_of gs ≡ check_in gs → ⊥) → 18 ≡ first (block_checks n b gs)
+  pub gives_18 : number_in gs ≡ b → shape_wrong n b gs ≡ false → (check_of gs ≡ check_in gs → ⊥) → first (block_checks n b gs) ≡ Some R.BlockCheck
   unfolding block_checks
   gives_18 h s k = rw (eq-eqb (number_in gs) b h, s, ne_eqb (check_of gs) (check_in gs) k)
 
-  pub gives_word : number_in gs ≡ b → shape_wrong n b gs ≡ false → check_of gs ≡ check_in gs → first (in_turn word_checks (62 * b) (words_in gs)) ≡ first (block_checks n b gs)
+  pub gives_word : number_in gs ≡ b → shape_wrong n b gs ≡ false → check_of gs ≡ check_in gs → first (block_checks n b gs) ≡ first (in_turn word_checks (62 * b) (words_in gs))
   unfolding block_checks
   gives_word h s k = rw (eq-eqb (number_in gs) b h, s, eq-eqb (check_of gs) (check_in gs) k)
 
@@ -63,9 +64,9 @@ module _ (n b : ℕ) (gs : List ℕ) where
     pub number : number_in gs ≡ b
     pub shape : Shaped
     pub check : check_of gs ≡ check_in gs
-    pub words : None (in_turn word_checks (62 * b) (words_in gs))
+    pub words : NoneHolds (in_turn word_checks (62 * b) (words_in gs))
 
-  pub good : None (block_checks n b gs) → Good
+  pub good : NoneHolds (block_checks n b gs) → Good
   unfolding block_checks
   good (number, (shape, (check, words))) =
       record {
@@ -75,6 +76,6 @@ module _ (n b : ℕ) (gs : List ℕ) where
         words = words;
       }
 
-  pub none : Good → None (block_checks n b gs)
+  pub none : Good → NoneHolds (block_checks n b gs)
   unfolding block_checks
   none g = (rw (eq-eqb (number_in gs) b g.number), (shape g.shape, (rw (eq-eqb (check_of gs) (check_in gs) g.check), g.words)))

@@ -1,6 +1,6 @@
 pub mod Turns
 pub mod Walks
-pub mod Checks
+pub mod Bytes
 pub mod Groups
 pub mod Blocks
 pub mod Decks

@@ -1,17 +1,15 @@
 -- The two round trips, of what `read` and `write` promise. Assumes nothing.
-use Rattle.std.proofs.Common.{◌≡◌, ℕ, suc, ◌*◌, ◌/◌, ◌^◌, ◌<◌, ◌≤◌, List, [], ◌∷◌, map, length, get_or, take, sym, refl, ap, ◌∙◌, subst, zero-add, arith, take_at, le-ltb, leb-false}
+use Rattle.std.proofs.Common.{◌≡◌, ℕ, suc, ◌*◌, ◌/◌, ◌^◌, ◌<◌, ◌≤◌, List, [], ◌∷◌, map, length, get_or, take, sym, refl, ap, ◌∙◌, subst, zero-add, arith, take_at, le-ltb, leb-false, None, Ok}
+use Rattle.digits.specs.declared.refusal.Refusal.TheVariants as R
 use Rattle.digits.specs.Refusal.{first}
-use Rattle.digits.proofs.Refusals.{None, none_first}
+use Rattle.digits.proofs.Refusals.{NoneHolds, none_first}
 use Rattle.digits.specs.Lent.{over}
 use Rattle.digits.specs.Lists.{pieces, in_turn, joined}
 use Rattle.deck.specs.Deck.{groups_of, blocks_of, bytes_of, words_in, words_of, word_checks, deck_checks, read_checks, read_of, words_after, block_count, blocks_for, deck_of, words_wrong, write_checks, write_of, deck_after}
-use Rattle.deck.specs.declared.ReadIn.TheVariants as R
-use Rattle.deck.specs.declared.Writing.TheVariants as W
 use Rattle.digits.specs.Table.{Each}
 use Rattle.digits.proofs.Table.{Below, each, each_split}
 use Rattle.deck.proofs.Groups.{length_blocks}
-use Rattle.deck.proofs.Checks.{words_numbered}
-use Rattle.deck.proofs.Answers.{Sized, sized, right_length, right_words, few, past, byte_count, read_0, accepted, write_accepted, Read, was_read, taken, Wrote, wrote}
+use Rattle.deck.proofs.Answers.{Sized, sized, right_length, right_words, few, past, byte_count, read_none, accepted, write_accepted, Read, was_read, taken, Wrote, wrote}
 use Rattle.deck.proofs.Through.{Block, blocks_bytes_lem, blocks_are, bytes_blocks}
 use Rattle.deck.proofs.Written.{made, length_made, length_deck}
 use Rattle.deck.proofs.Back.{Holds, holds}
@@ -20,11 +18,11 @@ use Rattle.deck.proofs.Again.{Again, again}
 -- ---- written, then read
 
 -- 3 refuses a word of more than 55 bits
-word_below : (a w : ℕ) → None (word_checks a w) → w < 2 ^ 64
+word_below : (a w : ℕ) → NoneHolds (word_checks a w) → w < 2 ^ 64
 unfolding word_checks
 word_below a w h = omega (arith, leb-false (2 ^ 55) w h.0)
 
-words_below : (a : ℕ) (ws : List ℕ) → None (in_turn word_checks a ws) → Below (2 ^ 64) ws
+words_below : (a : ℕ) (ws : List ℕ) → NoneHolds (in_turn word_checks a ws) → Below (2 ^ 64) ws
 words_below a [] h = tt
 words_below a (w ∷ ws) h = let (here, later) = each_split _ (word_checks a w) _ h in (word_below a w here, words_below (suc a) ws later)
 
@@ -55,26 +53,26 @@ module _ {ws : List ℕ} {room₀ n₀ : ℕ} (w : Wrote ws room₀ n₀) where
   unfolding words_of
   words_back = rw blocks held.words
 
-  none_back : None (deck_checks (deck_of ws))
+  none_back : NoneHolds (deck_checks (deck_of ws))
   none_back = rw (count, blocks) held.none
 
-  read_back : (room : ℕ) → length ws ≤ room → first (read_checks (deck_of ws) room) ≡ 0
+  read_back : (room : ℕ) → length ws ≤ room → first (read_checks (deck_of ws) room) ≡ None
   unfolding n
   read_back room h =
       let k = few (length ws) w.length_right in
       let l = length_deck ws in
-      read_0 (deck_of ws) room (right_length (length (deck_of ws)) (record { some = λ e. omega arith; whole = omega arith; most = omega arith }))
+      read_none (deck_of ws) room (right_length (length (deck_of ws)) (record { some = λ e. omega arith; whole = omega arith; most = omega arith }))
       (none_first (deck_checks (deck_of ws)) none_back) (subst (λ (m : List ℕ). length m ≤ room) (sym words_back) h)
 
 -- where `write` gives the number of bytes, `read` of those bytes gives the words back
-pub written_read : (ws deck words : List ℕ) (n : ℕ) → write_of ws (length deck) ≡ W.Bytes n → length ws ≤ length words
-    → (read_of (take n (deck_after ws deck)) (length words) ≡ R.Words (length ws)) × (words_after (take n (deck_after ws deck)) words ≡ over ws words)
+pub written_read : (ws deck words : List ℕ) (n : ℕ) → write_of ws (length deck) ≡ Ok n → length ws ≤ length words
+    → (read_of (take n (deck_after ws deck)) (length words) ≡ Ok (length ws)) × (words_after (take n (deck_after ws deck)) words ≡ over ws words)
 written_read ws deck words n e room =
     let w = wrote ws (length deck) n e in
     let back = words_back w in
     let r = accepted (deck_of ws) words (read_back w (length words) room) in
     let t : take n (deck_after ws deck) ≡ deck_of ws = ap (take n) (sym (write_accepted ws deck w.all).1) ∙ take_at (deck_of ws) _ n (length_deck ws ∙ w.count) in
-    let x : R.Words (length ws) ≡ read_of (deck_of ws) (length words) = rw back at r.0 in
+    let x : Ok (length ws) ≡ read_of (deck_of ws) (length words) = rw back at r.0 in
     let y : over ws words ≡ words_after (deck_of ws) words = rw back at r.1 in
     rw t (sym x, sym y)
 
@@ -121,7 +119,7 @@ module _ {deck : List ℕ} {room₀ n₀ : ℕ} (bytes : Below 256 deck) (r : Re
       let s = size.whole in
       omega arith
 
-  write_again : (room : ℕ) → length deck ≤ room → first (write_checks (words_of deck) room) ≡ 0
+  write_again : (room : ℕ) → length deck ≤ room → first (write_checks (words_of deck) room) ≡ None
   write_again room h =
       let l = same.least in
       let t = same.total in
@@ -131,26 +129,26 @@ module _ {deck : List ℕ} {room₀ n₀ : ℕ} (bytes : Below 256 deck) (r : Re
       let p = pieced in
       let j = size_again in
       rw (
-        ← past 21 words_wrong (in_turn word_checks 0) byte_count (words_of deck) room (words_numbered 0 (words_of deck)) (right_words (length (words_of deck)) (omega arith) (omega arith)),
+        past R.WordCount words_wrong (in_turn word_checks 0) byte_count (words_of deck) room (right_words (length (words_of deck)) (omega arith) (omega arith)),
         none_first (in_turn word_checks 0 (words_of deck)) (rw words_are same.none),
         le-ltb room (512 * block_count (length (words_of deck))) (omega arith),
       )
 
 -- "words total at most 4,096"
-pub few_words : (deck words : List ℕ) (n : ℕ) → ((i : ℕ) → get_or deck i 0 < 256) → read_of deck (length words) ≡ R.Words n → n ≤ 4096
+pub few_words : (deck words : List ℕ) (n : ℕ) → ((i : ℕ) → get_or deck i 0 < 256) → read_of deck (length words) ≡ Ok n → n ≤ 4096
 few_words deck words n bytes e =
     let r = was_read deck (length words) n e in
     let below = each (λ (x : ℕ). x < 256) deck 0 bytes in
     omega (arith, (same below r).total, ap length (words_are below r), r.count)
 
 -- where `read` gives the number of words, `write` of those words gives the same deck
-pub read_written : (deck words out : List ℕ) (n : ℕ) → ((i : ℕ) → get_or deck i 0 < 256) → read_of deck (length words) ≡ R.Words n → length deck ≤ length out
-    → (write_of (take n (words_after deck words)) (length out) ≡ W.Bytes (length deck)) × (deck_after (take n (words_after deck words)) out ≡ over deck out)
+pub read_written : (deck words out : List ℕ) (n : ℕ) → ((i : ℕ) → get_or deck i 0 < 256) → read_of deck (length words) ≡ Ok n → length deck ≤ length out
+    → (write_of (take n (words_after deck words)) (length out) ≡ Ok (length deck)) × (deck_after (take n (words_after deck words)) out ≡ over deck out)
 read_written deck words out n bytes e room =
     let r = was_read deck (length words) n e in
     let below = each (λ (x : ℕ). x < 256) deck 0 bytes in
     let again = deck_again below r in
     let w = write_accepted (words_of deck) out (write_again below r (length out) room) in
-    let x : W.Bytes (length deck) ≡ write_of (words_of deck) (length out) = rw (size_again below r) at w.0 in
+    let x : Ok (length deck) ≡ write_of (words_of deck) (length out) = rw (size_again below r) at w.0 in
     let y : over deck out ≡ deck_after (words_of deck) out = rw again at w.1 in
     rw (taken deck words n r) (sym x, sym y)

@@ -1,5 +1,6 @@
 -- A block and a deck as they are made. Assumes nothing.
 use Rattle.std.proofs.Common.{◌≡◌, ℕ, zero, suc, ◌+◌, ◌-◌, ◌*◌, ◌^◌, ◌<◌, ◌≤◌, min, List, [], ◌++◌, map, length, take, drop, replicate, sym, refl, ap, ◌∙◌, mod-lt, zero-add, arith, length-append, take-append-drop, length-take, take_all, take_at, pow_pos}
+use lib.Seq.{take-append_seam, drop-append_seam}
 use lib.ListN.{length-replicate}
 use Rattle.digits.specs.Line.{total}
 use Rattle.digits.specs.Lists.{pieces, joined, placed}
@@ -59,7 +60,7 @@ pub length_at : (ws : List ℕ) (b : ℕ) → length (words_at ws b) ≤ 62
 length_at ws b = rw length-take (omega arith)
 
 -- as many as there are, up to k
-pub short : (m k : ℕ) (l : List ℕ) → m ≡ min k (length l) → take m l ≡ take k l
+short : (m k : ℕ) (l : List ℕ) → m ≡ min k (length l) → take m l ≡ take k l
 short m k l e = rw (take-append-drop k l) at (take_at (take k l) (drop k l) m (length-take k l ∙ sym e))
 
 abbrev pub rest_of : List ℕ → ℕ → ℕ → List ℕ
@@ -68,3 +69,9 @@ rest_of ws n b = joined (map bytes_of (placed block_of (0 + b) (drop b (pieces 6
 pub rest_step : (ws : List ℕ) (n b : ℕ) → b < n → rest_of ws n b ≡ bytes_of (block_of b (words_at ws b)) ++ rest_of ws n (b + 1)
 rest_step ws n b h =
     rw (placed_step block_of (pieces 62 n ws) [] 0 b (rw length_pieces h), pieces_at 62 n ws b h, zero-add b)
+
+-- a part of at most k in front of the rest, as `chunks` cuts it
+pub cut : (k : ℕ) (l x r : List ℕ) → l ≡ x ++ r → length x ≡ min k (length l) → (x ≡ take k l) × (r ≡ drop k l)
+cut k l x r h e =
+    let past : drop (length x) l ≡ drop k l = rw (take-append-drop k l, length-take k l ∙ sym e) at (drop-append_seam (take k l) (drop k l)) in
+    (sym (take-append_seam x r) ∙ ap (take (length x)) (sym h) ∙ short (length x) k l e, sym (drop-append_seam x r) ∙ ap (drop (length x)) (sym h) ∙ past)

@@ -1,6 +1,8 @@
 -- "The deck", in the paper's order and words. Assumes nothing.
-use Rattle.std.specs.Prelude.{ℕ, ◌+◌, ◌-◌, ◌*◌, ◌/◌, ◌%◌, ◌^◌, Bool, cond, not, ◌||◌, List, [], ◌∷◌, ◌++◌, map, length, take, drop, replicate, ◌==◌, nat_lt, slice_index}
+use Rattle.std.specs.Prelude.{ℕ, ◌+◌, ◌-◌, ◌*◌, ◌/◌, ◌%◌, ◌^◌, Bool, cond, not, ◌||◌, List, [], ◌∷◌, ◌++◌, map, length, take, drop, replicate, ◌==◌, nat_lt, slice_index, Result, Ok, Err}
 use Rattle.digits.specs.Line.{total, parts, join}
+use Rattle.digits.specs.declared.refusal.Refusal.{Refusal}
+use Rattle.digits.specs.declared.refusal.Refusal.TheVariants as R
 use Rattle.digits.specs.Refusal.{Check, first, answer}
 use Rattle.word.specs.Layout.{line_of}
 use Rattle.word.specs.Word.{fault_checks}
@@ -8,10 +10,6 @@ use Rattle.digits.specs.Lent.{over}
 use Rattle.digits.specs.Sizes.{room_wrong}
 use Rattle.digits.specs.Lists.{pieces, joined, placed, in_turn, all_zero}
 use Rattle.digits.specs.Number.{digits_of, number_of}
-use Rattle.deck.specs.declared.ReadIn.{ReadIn}
-use Rattle.deck.specs.declared.ReadIn.TheVariants as R
-use Rattle.deck.specs.declared.Writing.{Writing}
-use Rattle.deck.specs.declared.Writing.TheVariants as W
 
 -- "Blocks of 512 bytes: 64 groups of 8, high byte first."
 unfoldable pub groups_of : List ℕ → List ℕ
@@ -91,15 +89,15 @@ abbrev pub check_wrong : List ℕ → Bool
 check_wrong gs = not (check_of gs == check_in gs)
 
 -- 3 to 9, of a word at its own address
-unfoldable pub word_checks : ℕ → ℕ → List Check
+unfoldable pub word_checks : ℕ → ℕ → List (Check Refusal)
 word_checks address word = fault_checks word address (line_of word)
 
 -- "16, 17, 18 and words 3 to 9", of block b of n
-unfoldable pub block_checks : ℕ → ℕ → List ℕ → List Check
+unfoldable pub block_checks : ℕ → ℕ → List ℕ → List (Check Refusal)
 block_checks n b gs =
-    (16, place_wrong b gs) ∷
-    (17, shape_wrong n b gs) ∷
-    (18, check_wrong gs) ∷
+    (R.BlockNumber, place_wrong b gs) ∷
+    (R.BlockShape, shape_wrong n b gs) ∷
+    (R.BlockCheck, check_wrong gs) ∷
     in_turn word_checks (62 * b) (words_in gs)
 
 -- the words of a deck, block by block
@@ -107,21 +105,21 @@ unfoldable pub words_of : List ℕ → List ℕ
 words_of deck = joined (map words_in (blocks_of deck))
 
 -- "block by block 16, 17, 18 and words 3 to 9"
-abbrev pub deck_checks : List ℕ → List Check
+abbrev pub deck_checks : List ℕ → List (Check Refusal)
 deck_checks deck = in_turn (block_checks (length deck / 512)) 0 (blocks_of deck)
 
 -- "The reader checks 15, then block by block 16, 17, 18 and words 3 to 9, then 19;"
-abbrev pub read_checks : List ℕ → ℕ → List Check
+abbrev pub read_checks : List ℕ → ℕ → List (Check Refusal)
 read_checks deck room =
-    (15, length_wrong (length deck)) ∷ (deck_checks deck ++ ((19, room_wrong (length (words_of deck)) room) ∷ []))
+    (R.DeckLength, length_wrong (length deck)) ∷ (deck_checks deck ++ ((R.Room, room_wrong (length (words_of deck)) room) ∷ []))
 
 -- "Accepted, it gives the number of words"
-unfoldable pub read_of : List ℕ → ℕ → ReadIn
-read_of deck room = answer (first (read_checks deck room)) R.Refused (R.Words (length (words_of deck)))
+unfoldable pub read_of : List ℕ → ℕ → Result ℕ Refusal
+read_of deck room = answer (first (read_checks deck room)) Err (Ok (length (words_of deck)))
 
 -- "and writes those and nothing past them"; "refused, it writes nothing."
 unfoldable pub words_after : List ℕ → List ℕ → List ℕ
-words_after deck words = answer (first (read_checks deck (length words))) (λ n. words) (over (words_of deck) words)
+words_after deck words = answer (first (read_checks deck (length words))) (λ r. words) (over (words_of deck) words)
 
 -- the block of at most 62 words at its place, as its groups
 abbrev pub sealed : List ℕ → List ℕ
@@ -145,14 +143,14 @@ abbrev pub words_wrong : ℕ → Bool
 words_wrong n = n == 0 || nat_lt 4096 n
 
 -- "The writer checks 21, each word by 3 to 9, then 19,"
-abbrev pub write_checks : List ℕ → ℕ → List Check
+abbrev pub write_checks : List ℕ → ℕ → List (Check Refusal)
 write_checks ws room =
-    (21, words_wrong (length ws)) ∷ (in_turn word_checks 0 ws ++ ((19, room_wrong (512 * block_count (length ws)) room) ∷ []))
+    (R.WordCount, words_wrong (length ws)) ∷ (in_turn word_checks 0 ws ++ ((R.Room, room_wrong (512 * block_count (length ws)) room) ∷ []))
 
 -- "and writes 512 bytes a block"
-unfoldable pub write_of : List ℕ → ℕ → Writing
-write_of ws room = answer (first (write_checks ws room)) W.Refused (W.Bytes (512 * block_count (length ws)))
+unfoldable pub write_of : List ℕ → ℕ → Result ℕ Refusal
+write_of ws room = answer (first (write_checks ws room)) Err (Ok (512 * block_count (length ws)))
 
 -- "and nothing past them; refused, it writes nothing."
 unfoldable pub deck_after : List ℕ → List ℕ → List ℕ
-deck_after ws deck = answer (first (write_checks ws (length deck))) (λ n. deck) (over (deck_of ws) deck)
+deck_after ws deck = answer (first (write_checks ws (length deck))) (λ r. deck) (over (deck_of ws) deck)

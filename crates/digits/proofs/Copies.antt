@@ -1,17 +1,13 @@
 -- The laws of a copy, element by element. Assumes nothing.
 use Prim.Native.Nat.{ℕ, suc, ◌+◌, ◌-◌, ◌<◌, ◌≤◌}
-use mathlib.Core.Path.{◌≡◌, refl, ap, ◌∙◌}
-use mathlib.Core.Bool.{Bool, true, false, ◌&&◌}
+use mathlib.Core.Path.{◌≡◌, ap, ◌∙◌}
 use mathlib.Core.List.{List, ◌++◌, append-nil}
 use native.Mathlib.Nat.{zero-add, add-sub_cancel_left}
 use native.Mathlib.Numerals.{add-one}
 use lib.ListN.{length, get_or, set, take, drop, length-drop, drop_of_length-le}
-use lib.Dec.{ltb}
 use lib.Seq.{paste-suc, take_all, length-take-le}
-use borrow.Author.Tests.{ltb-true, ltb-false}
 use native.Mathlib.Omega.{arith}
 use Rattle.digits.specs.Lent.{over, copied}
-use Rattle.digits.proofs.Truth.{true_not_false}
 
 -- a store at the end of a copy
 pub copy_step : (from to : List ℕ) (i v : ℕ) → i < length from → i < length to → v ≡ get_or from i 0
@@ -35,17 +31,3 @@ pub copied_part : (at : ℕ) (new w : List ℕ) {x : List ℕ} → at + length n
 copied_part at new w h e =
     let k : at + length new - at ≡ length new = add-sub_cancel_left at (length new) in
     (rw k at e) ∙ copied_full new (take (length new) (drop at w)) (length-take-le (length new) (drop at w) (omega (arith, length-drop at w)))
-
--- a copy that can go no further is all of it that there is room for
-pub copy_end : (from to : List ℕ) (i : ℕ) → i ≤ length from → i ≤ length to → ltb i (length from) && ltb i (length to) ≡ false → take i from ++ drop i to ≡ copied from to
-copy_end from to i h k = by (ltb i (length from)) (ltb i (length to)) refl refl
-  where
-    by : (p q : Bool) → ltb i (length from) ≡ p → ltb i (length to) ≡ q → p && q ≡ false → take i from ++ drop i to ≡ copied from to
-    by true true x y z = absurd (true_not_false refl z)
-    by true false x y z =
-        let n : i ≡ length to = omega (arith, ltb-false i (length to) y) in
-        let l : length (take (length to) from) ≡ length to = length-take-le (length to) from (omega (arith, ltb-true i (length from) x)) in
-        rw (n, l)
-    by false q x y z =
-        let n : i ≡ length from = omega (arith, ltb-false i (length from) x) in
-        rw (n, take_all (length from) from (omega arith), take_all (length to) from (omega arith))

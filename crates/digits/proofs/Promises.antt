@@ -12,7 +12,8 @@ use Rattle.digits.proofs.storage_wrong.Reads as storage_wrong
 use Rattle.digits.proofs.sizes_wrong.Reads as sizes_wrong
 use Rattle.digits.proofs.byte_at.Reads as byte_at
 use Rattle.digits.proofs.copy.Reads as copy
-use Rattle.digits.proofs.copy_words.Reads as copy_words
+use Rattle.digits.proofs.refusal.Refusal.number.Reads as number
+use Rattle.digits.proofs.refusal.Refusal.field.Reads as field
 
 pub one_sole : (κs : _) (args : _) (r q : ℕ) (x y : _) → one.Post κs args r x → one.Post κs args q y → r ≡ q
 one_sole κs args r q x y a b = sole a.0 b.0
@@ -26,8 +27,8 @@ with_bit_sole κs args r q x y a b = sole a b
 pub both_decimal_sole : (κs : _) (args : _) (r q : Bool) (x y : _) → both_decimal.Post κs args r x → both_decimal.Post κs args q y → r ≡ q
 both_decimal_sole κs args r q x y a b = sole a b
 
-pub first_of_sole : (κs : _) (args : _) (r q : ℕ) (x y : _) → first_of.Post κs args r x → first_of.Post κs args q y → r ≡ q
-first_of_sole κs args r q x y a b = sole a b
+pub first_of_sole : (T g a b c κs args r q x y : _) → first_of.Post T g a b c κs args r x → first_of.Post T g a b c κs args q y → r ≡ q
+first_of_sole T g a b c κs args r q x y p s = sole p s
 
 pub storage_wrong_sole : (κs : _) (args : _) (r q : Bool) (x y : _) → storage_wrong.Post κs args r x → storage_wrong.Post κs args q y → r ≡ q
 storage_wrong_sole κs args r q x y a b = sole a b
@@ -39,8 +40,11 @@ pub byte_at_sole : (κs : _) (args : _) (r q : ℕ) (x y : _) → byte_at.Post �
 byte_at_sole κs args r q x y a b = sole a b
 
 -- of what is lent
-pub copy_sole : (κs : _) (args : _) (r q : _) (x y : _) → copy.Post κs args r x → copy.Post κs args q y → x.1.0.now ≡ y.1.0.now
-copy_sole κs args r q x y a b = sole a b
+pub copy_sole : (T g a b c κs args r q x y : _) → copy.Post T g a b c κs args r x → copy.Post T g a b c κs args q y → x.1.0.now ≡ y.1.0.now
+copy_sole T g a b c κs args r q x y p s = sole p s
 
-pub copy_words_sole : (κs : _) (args : _) (r q : _) (x y : _) → copy_words.Post κs args r x → copy_words.Post κs args q y → x.1.0.now ≡ y.1.0.now
-copy_words_sole κs args r q x y a b = sole a b
+pub number_sole : (κs : _) (args : _) (r q : ℕ) (x y : _) → number.Post κs args r x → number.Post κs args q y → r ≡ q
+number_sole κs args r q x y a b = sole a b
+
+pub field_sole : (κs : _) (args : _) (r q : ℕ) (x y : _) → field.Post κs args r x → field.Post κs args q y → r ≡ q
+field_sole κs args r q x y a b = sole a b

@@ -1,165 +1,121 @@
 -- "Given exactly when": the one law of lists of checks. Assumes nothing.
 use Prim.Native.Nat.{ℕ, zero, suc, ◌<◌, suc-le-suc}
-use mathlib.Core.Path.{◌≡◌, refl, sym, ap, subst, ◌∙◌}
-use mathlib.Core.List.{List, [], ◌∷◌, ◌++◌}
-use mathlib.Core.Bool.{Bool, true, false, not, cond, ◌&&◌}
+use mathlib.Core.Path.{◌≡◌, refl, sym, ap, subst}
+use mathlib.Core.List.{List, [], ◌∷◌, ◌++◌, map}
+use mathlib.Core.Bool.{true, false}
 use mathlib.Core.Logic.{◌↔◌}
 use native.Mathlib.Nat.{not-suc-le-zero, le_of_suc-le-suc, zero-lt-suc}
-use native.Mathlib.Omega.{arith}
-use borrow.Author.Tests.{eq-eqb, ne_eqb}
-use lib.Dec.{T, eqb, ltb, ltb→lt}
-use lib.ListN.{length}
-use mir.Facts.{and_yes}
+use Rattle.std.specs.Prelude.{slice_get, Option, Some, None, Ok, Err}
 use Rattle.digits.specs.Table.{Each}
-use Rattle.digits.specs.Refusal.{Check, first, answer, number_at, test_at, Given}
+use Rattle.digits.specs.Refusal.{Check, first, answer, test_at, Given}
 use Rattle.digits.proofs.Truth.{zero_one, true_not_false}
 
-T_not : (b : Bool) → T (not b) → b ≡ true → ⊥
-T_not true t e = t
-T_not false t e = true_not_false e refl
+module _ {R : Type 0} where
+  pub some_inj : {x y : R} → Some x ≡ Some y → x ≡ y
+  some_inj e = cc
 
--- the answer where a number is given, and where none is
-module _ {A : Type 0} (refused : ℕ → A) (x : A) where
-  pub refuses : (n : ℕ) → (n ≡ 0 → ⊥) → answer n refused x ≡ refused n
-  refuses zero h = absurd (h refl)
-  refuses (suc n) h = refl
+  pub some_not_none : {x : R} → Some x ≡ None → ⊥
+  some_not_none e = zero_one cc
 
-  pub accepts : (n : ℕ) → n ≡ 0 → answer n refused x ≡ x
-  accepts zero h = refl
-  accepts (suc n) h = absurd (omega arith)
+-- the answer where a refusal is given, and where none is
+module _ {R A : Type 0} (refused : R → A) (x : A) where
+  pub refuses : {k : Option R} {r : R} → k ≡ Some r → answer k refused x ≡ refused r
+  refuses e = ap (λ (m : Option R). answer m refused x) e
 
--- no number of the list is 0: at a list with its numbers written out this computes
-abbrev pub numbered : List Check → Bool
-numbered [] = true
-numbered ((zero, b) ∷ cs) = false
-numbered ((suc n, b) ∷ cs) = numbered cs
+  pub accepts : {k : Option R} → k ≡ None → answer k refused x ≡ x
+  accepts e = ap (λ (m : Option R). answer m refused x) e
 
--- no test of the list holds
-abbrev pub None : List Check → Type 0
-None cs = Each (λ (c : Check). c.1 ≡ false) cs
+module _ {R : Type 0} where
+  -- no test of the list holds
+  abbrev pub NoneHolds : List (Check R) → Type 0
+  NoneHolds cs = Each (λ (c : Check R). c.1 ≡ false) cs
 
-pub none_first : (cs : List Check) → None cs → first cs ≡ 0
-none_first [] h = refl
-none_first ((n, true) ∷ cs) h = absurd (true_not_false refl h.0)
-none_first ((n, false) ∷ cs) h = none_first cs h.1
+  pub none_first : (cs : List (Check R)) → NoneHolds cs → first cs ≡ None
+  none_first [] h = refl
+  none_first ((r, true) ∷ cs) h = absurd (true_not_false refl h.0)
+  none_first ((r, false) ∷ cs) h = none_first cs h.1
 
-pub first_none : (cs : List Check) → T (numbered cs) → first cs ≡ 0 → None cs
-first_none [] t e = tt
-first_none ((zero, b) ∷ cs) t e = absurd t
-first_none ((suc n, true) ∷ cs) t e = absurd (omega arith)
-first_none ((suc n, false) ∷ cs) t e = (refl, first_none cs t e)
+  pub first_none : (cs : List (Check R)) → first cs ≡ None → NoneHolds cs
+  first_none [] e = tt
+  first_none ((r, true) ∷ cs) e = absurd (some_not_none e)
+  first_none ((r, false) ∷ cs) e = (refl, first_none cs e)
 
-here : (m : ℕ) (cs : List Check) → Given m ((m, true) ∷ cs)
-here m cs = record { place = 0; inside = zero-lt-suc _; number = refl; holds = refl; earlier = λ j h. absurd (not-suc-le-zero h) }
+  here : (r : R) (cs : List (Check R)) → Given r ((r, true) ∷ cs)
+  here r cs = record { place = 0; stands = refl; holds = refl; earlier = λ j h. absurd (not-suc-le-zero h) }
 
-earlier_than : (n : ℕ) (cs : List Check) (i : ℕ) → ((j : ℕ) → j < i → test_at cs j ≡ false) → (j : ℕ) → j < suc i → test_at ((n, false) ∷ cs) j ≡ false
-earlier_than n cs i e zero h = refl
-earlier_than n cs i e (suc j) h = e j (le_of_suc-le-suc h)
+  earlier_than : (r : R) (cs : List (Check R)) (i : ℕ) → ((j : ℕ) → j < i → test_at cs j ≡ false) → (j : ℕ) → j < suc i → test_at ((r, false) ∷ cs) j ≡ false
+  earlier_than r cs i e zero h = refl
+  earlier_than r cs i e (suc j) h = e j (le_of_suc-le-suc h)
 
-later : {m n : ℕ} {cs : List Check} → Given n cs → Given n ((m, false) ∷ cs)
-later {m} {n} {cs} g =
-    record {
-      place = suc g.place;
-      inside = suc-le-suc g.inside;
-      number = g.number;
-      holds = g.holds;
-      earlier = earlier_than m cs g.place g.earlier;
-    }
+  later : {q r : R} {cs : List (Check R)} → Given r cs → Given r ((q, false) ∷ cs)
+  later {q} {r} {cs} g =
+      record {
+        place = suc g.place;
+        stands = g.stands;
+        holds = g.holds;
+        earlier = earlier_than q cs g.place g.earlier;
+      }
 
--- what is given is the first number
-pub given_first : (cs : List Check) (n : ℕ) → Given n cs → first cs ≡ n
-given_first cs n g = go cs g.place g.inside g.number g.holds g.earlier
-  where
-    go : (l : List Check) (i : ℕ) → i < length l → number_at l i ≡ n → test_at l i ≡ true → ((j : ℕ) → j < i → test_at l j ≡ false) → first l ≡ n
-    go [] i h e t f = absurd (not-suc-le-zero h)
-    go ((m, true) ∷ l) zero h e t f = e
-    go ((m, false) ∷ l) zero h e t f = absurd (true_not_false t refl)
-    go ((m, true) ∷ l) (suc i) h e t f = absurd (true_not_false refl (f zero (zero-lt-suc i)))
-    go ((m, false) ∷ l) (suc i) h e t f = go l i (le_of_suc-le-suc h) e t (λ j k. f (suc j) (suc-le-suc k))
-
--- a first number that is not 0 is given
-pub first_given : (cs : List Check) (n : ℕ) → first cs ≡ suc n → Given (suc n) cs
-first_given [] n e = absurd (zero_one (omega arith))
-first_given ((m, true) ∷ cs) n e = subst (λ (k : ℕ). Given k ((m, true) ∷ cs)) e (here m cs)
-first_given ((m, false) ∷ cs) n e = later (first_given cs n e)
-
-never_0 : (cs : List Check) → T (numbered cs) → Given 0 cs → ⊥
-never_0 cs t g = go cs t g.place g.inside g.number
-  where
-    go : (l : List Check) → T (numbered l) → (i : ℕ) → i < length l → number_at l i ≡ 0 → ⊥
-    go [] t i h e = not-suc-le-zero h
-    go ((zero, b) ∷ l) t i h e = t
-    go ((suc m, b) ∷ l) t zero h e = omega arith
-    go ((suc m, b) ∷ l) t (suc i) h e = go l t i (le_of_suc-le-suc h) e
-
--- a refusal tells its number, and is not what is given where nothing is refused
-pub record Tells {A X : Type 0} (given : X → A) (refused : ℕ → A) : Type 0 where
-  pub number : (m n : ℕ) → refused m ≡ refused n → m ≡ n
-  pub apart : (x : X) (n : ℕ) → given x ≡ refused n → ⊥
-
-module _ {A X : Type 0} {given : X → A} {refused : ℕ → A} (t : Tells given refused) (x : X) where
-  -- an answer refuses by a number exactly when the list gives it
-  pub exactly : (cs : List Check) → T (numbered cs) → (n : ℕ) → (answer (first cs) refused (given x) ≡ refused n) ↔ Given n cs
-  exactly cs h n = (to (first cs) refl, λ g. back n g)
+  -- what is given is the first whose test holds
+  pub given_first : (cs : List (Check R)) (r : R) → Given r cs → first cs ≡ Some r
+  given_first cs r g = go cs g.place g.stands g.holds g.earlier
     where
-      to : (k : ℕ) → first cs ≡ k → answer k refused (given x) ≡ refused n → Given n cs
-      to zero e a = absurd (t.apart x n a)
-      to (suc k) e a = subst (λ (m : ℕ). Given m cs) (t.number (suc k) n a) (first_given cs k e)
+      go : (l : List (Check R)) (i : ℕ) → slice_get (map (λ (c : Check R). c.0) l) i ≡ Some r → test_at l i ≡ true → ((j : ℕ) → j < i → test_at l j ≡ false) → first l ≡ Some r
+      go [] i e t f = absurd (some_not_none (sym e))
+      go ((q, true) ∷ l) zero e t f = e
+      go ((q, false) ∷ l) zero e t f = absurd (true_not_false t refl)
+      go ((q, true) ∷ l) (suc i) e t f = absurd (true_not_false refl (f zero (zero-lt-suc i)))
+      go ((q, false) ∷ l) (suc i) e t f = go l i e t (λ j k. f (suc j) (suc-le-suc k))
 
-      back : (m : ℕ) → Given m cs → answer (first cs) refused (given x) ≡ refused m
-      back zero g = absurd (never_0 cs h g)
-      back (suc m) g = ap (λ (k : ℕ). answer k refused (given x)) (given_first cs (suc m) g)
+  -- and the first whose test holds is given
+  pub first_given : (cs : List (Check R)) {r : R} → first cs ≡ Some r → Given r cs
+  first_given [] e = absurd (some_not_none (sym e))
+  first_given ((q, true) ∷ cs) {r} e = subst (λ (p : R). Given p ((q, true) ∷ cs)) (some_inj e) (here q cs)
+  first_given ((q, false) ∷ cs) e = later (first_given cs e)
 
-  -- an answer that refuses: its number is the one that was found
-  pub given_number : (k n : ℕ) → answer k refused (given x) ≡ refused n → (k ≡ n) × (k ≡ 0 → ⊥)
-  given_number zero n a = absurd (t.apart x n a)
-  given_number (suc k) n a = (t.number (suc k) n a, λ e. omega arith)
+  -- the first of the first list, else that of the second
+  pub first_append : (xs ys : List (Check R)) → first (xs ++ ys) ≡ answer (first xs) Some (first ys)
+  first_append [] ys = refl
+  first_append ((r, true) ∷ xs) ys = refl
+  first_append ((r, false) ∷ xs) ys = first_append xs ys
 
-  -- and every other answer to the same number refuses by it too
-  pub same_refusal : {B : Type 0} (f : ℕ → B) (y : B) (k n : ℕ) → answer k refused (given x) ≡ refused n → answer k f y ≡ f n
-  same_refusal f y k n a = let (same, some) = given_number k n a in refuses f y k some ∙ ap f same
+  -- what every answer of a list is, the first is: at a list that is written out this computes
+  pub first_is : (P : R → Type 0) (cs : List (Check R)) → Each (λ (c : Check R). P c.0) cs → {r : R} → first cs ≡ Some r → P r
+  first_is P [] h e = absurd (some_not_none (sym e))
+  first_is P ((q, true) ∷ cs) h e = subst P (some_inj e) h.0
+  first_is P ((q, false) ∷ cs) h e = first_is P cs h.1 e
+
+-- a refusal tells which it is, and is not what is given where nothing is refused
+pub record Tells {R A X : Type 0} (given : X → A) (refused : R → A) : Type 0 where
+  pub which : (q r : R) → refused q ≡ refused r → q ≡ r
+  pub apart : (x : X) (r : R) → given x ≡ refused r → ⊥
+
+module _ {R A X : Type 0} {given : X → A} {refused : R → A} (t : Tells given refused) (x : X) where
+  -- an answer refuses exactly when the list gives that refusal
+  pub exactly : (cs : List (Check R)) (r : R) → (answer (first cs) refused (given x) ≡ refused r) ↔ Given r cs
+  exactly cs r = (to (first cs) refl, λ g. refuses refused (given x) (given_first cs r g))
+    where
+      to : (k : Option R) → first cs ≡ k → answer k refused (given x) ≡ refused r → Given r cs
+      to None e a = absurd (t.apart x r a)
+      to (Some q) e a = subst (λ (p : R). Given p cs) (t.which q r a) (first_given cs e)
+
+  -- an answer that refuses: it is the one that was found
+  pub given_which : (k : Option R) (r : R) → answer k refused (given x) ≡ refused r → k ≡ Some r
+  given_which None r a = absurd (t.apart x r a)
+  given_which (Some q) r a = ap Some (t.which q r a)
+
+  -- and every other answer to the same refuses by it too
+  pub same_refusal : {B : Type 0} (f : R → B) (y : B) (k : Option R) (r : R) → answer k refused (given x) ≡ refused r → answer k f y ≡ f r
+  same_refusal f y k r a = refuses f y (given_which k r a)
 
   -- an answer that is no refusal: no test of the list holds, and it is the answer that was to be given
-  pub given_none : (y : X) → (given x ≡ given y → x ≡ y) → (cs : List Check) → T (numbered cs) → answer (first cs) refused (given x) ≡ given y → None cs × (x ≡ y)
-  given_none y only cs h = by (first cs) refl
+  pub given_none : (y : X) → (given x ≡ given y → x ≡ y) → (cs : List (Check R)) → answer (first cs) refused (given x) ≡ given y → NoneHolds cs × (x ≡ y)
+  given_none y only cs h = by (first cs) refl h
     where
-      by : (k : ℕ) → first cs ≡ k → answer k refused (given x) ≡ given y → None cs × (x ≡ y)
-      by zero e a = (first_none cs h e, only a)
-      by (suc k) e a = absurd (t.apart y (suc k) (sym a))
+      by : (k : Option R) → first cs ≡ k → answer k refused (given x) ≡ given y → NoneHolds cs × (x ≡ y)
+      by None e a = (first_none cs e, only a)
+      by (Some r) e a = absurd (t.apart y r (sym a))
 
--- ---- one list after another
-
--- two lists without a number 0 make one without
-pub numbered_append : (xs ys : List Check) → T (numbered xs) → T (numbered ys) → T (numbered (xs ++ ys))
-numbered_append [] ys s t = t
-numbered_append ((zero, b) ∷ xs) ys s t = absurd s
-numbered_append ((suc n, b) ∷ xs) ys s t = numbered_append xs ys s t
-
--- the first number of the first list, else that of the second
-pub first_append : (xs ys : List Check) → T (numbered xs) → first (xs ++ ys) ≡ cond (not (eqb (first xs) 0)) (first xs) (first ys)
-first_append [] ys t = refl
-first_append ((zero, b) ∷ xs) ys t = absurd t
-first_append ((suc n, true) ∷ xs) ys t = rw (ne_eqb (suc n) 0 (λ e. omega arith))
-first_append ((suc n, false) ∷ xs) ys t = first_append xs ys t
-
--- ---- a bound on the numbers: at a list with its numbers written out this computes
-
-abbrev pub within : ℕ → List Check → Bool
-within k [] = true
-within k ((n, b) ∷ cs) = ltb n k && within k cs
-
-pub first_lt : (k : ℕ) (cs : List Check) → 0 < k → T (within k cs) → first cs < k
-first_lt k [] h t = h
-first_lt k ((n, true) ∷ cs) h t = ltb→lt n k (and_yes (ltb n k) (within k cs) t).0
-first_lt k ((n, false) ∷ cs) h t = first_lt k cs h (and_yes (ltb n k) (within k cs) t).1
-
--- ---- a number that is not in the list is not given: at a list with its numbers written out this computes
-
-abbrev pub absent : ℕ → List Check → Bool
-absent n [] = true
-absent n ((m, b) ∷ cs) = not (eqb m n) && absent n cs
-
-pub never : (n : ℕ) (cs : List Check) → T (absent n cs) → (n ≡ 0 → ⊥) → first cs ≡ n → ⊥
-never n [] t some e = some (sym e)
-never n ((m, true) ∷ cs) t some e = T_not (eqb m n) (and_yes (not (eqb m n)) (absent n cs) t).0 (eq-eqb m n e)
-never n ((m, false) ∷ cs) t some e = never n cs (and_yes (not (eqb m n)) (absent n cs) t).1 some e
+-- the answer of a function that gives or refuses
+pub result_tells : {R X : Type 0} → Tells {R = R} {X = X} Ok Err
+result_tells = record { which = λ q r e. cc; apart = λ x r e. zero_one cc }

@@ -10,5 +10,5 @@ abbrev pub over_at : {A : Type 0} → ℕ → List A → List A → List A
 over_at at new old = take at old ++ over new (drop at old)
 
 -- at the front, as far as there is room
-abbrev pub copied : List ℕ → List ℕ → List ℕ
+abbrev pub copied : {A : Type 0} → List A → List A → List A
 copied from to = over (take (length to) from) to

@@ -1,24 +1,28 @@
 // What everything stands on: a byte by its bits and its digits, a refusal before others, the sizes that 1 asks for, and a copy.
 #![tactic(auto)]
 
+mod refusal;
+
 ghost use Rattle.std.specs.Prelude.{◌≡◌, cond, ◌-◌, ◌^◌, ◌<◌, get_or};
 ghost use Rattle.digits.specs.Bits.{one, bit, with_bit};
 ghost use Rattle.digits.specs.Digits.{both_decimal};
 ghost use Rattle.digits.specs.Sizes.{storage_wrong, sizes_wrong};
 ghost use Rattle.digits.specs.Lent.{copied};
 
-// A bit that is on is 1.
+pub use refusal::Refusal;
+
+// A bit that is on is 1: std's, under the name that docs/PROMISES.md has.
 pub fn one(on: bool) -> u8
     ensures { (result ≡ one on) × (result < 2) }
 {
-    if on { 1 } else { 0 }
+    u8::from(on)
 }
 
 // How many bits of a byte stand below its bit `n`.
 fn below(n: u8) -> u8
     ensures { result ≡ 7 - n }
 {
-    if n < 7 { 7 - n } else { 0 }
+    7u8.saturating_sub(n)
 }
 
 // Bit `n` of a byte is on, bit 0 being the high one.
@@ -56,11 +60,11 @@ pub fn both_decimal(byte: u8) -> bool
     (byte / 16 <= 9) & (byte % 16 <= 9)
 }
 
-// The number where its test holds, else what the later tests gave.
-pub fn first_of(test: bool, number: u8, later: u8) -> u8
-    ensures { result ≡ cond test number later }
+// The answer where its test holds, else what the later tests gave.
+pub fn first_of<T: Copy>(test: bool, answer: T, later: T) -> T
+    ensures { result ≡ cond test answer later }
 {
-    if test { number } else { later }
+    if test { answer } else { later }
 }
 
 // 1, of main and local storage.
@@ -77,31 +81,17 @@ pub fn sizes_wrong(store: usize, main: usize, local: usize) -> bool
     (store == 0) | ((4096 < store) | storage_wrong(main, local))
 }
 
-// The byte at a place, or 0 past the end.
+// The byte at a place, or 0 past the end: std's, under the name that docs/PROMISES.md has.
 pub fn byte_at(bytes: &[u8], place: usize) -> u8
     ensures { result ≡ get_or bytes.now place 0 }
 {
-    if place < bytes.len() { bytes[place] } else { 0 }
+    bytes.get(place).copied().unwrap_or(0)
 }
 
 // Puts `from` at the front of `to`, as far as there is room.
-pub fn copy(from: &[u8], to: &mut [u8])
+pub fn copy<T: Copy>(from: &[T], to: &mut [T])
     ensures { to.new ≡ copied from.now to.old }
 {
-    let mut i = 0;
-    while (i < from.len()) & (i < to.len()) {
-        to[i] = from[i];
-        i += 1;
-    }
-}
-
-// The same, of words.
-pub fn copy_words(from: &[u64], to: &mut [u64])
-    ensures { to.new ≡ copied from.now to.old }
-{
-    let mut k = 0;
-    while (k < from.len()) & (k < to.len()) {
-        to[k] = from[k];
-        k += 1;
-    }
+    let n = from.len().min(to.len());
+    to[..n].copy_from_slice(&from[..n]);
 }

@@ -1,2 +1,3 @@
 pub mod Counts
+pub mod Marks
 pub mod Promises

@@ -3,16 +3,18 @@ use mathlib.Core.Path.{◌≡◌, refl}
 use lib.IntN.{pos, negsuc}
 use Rattle.digits.proofs.Sole.{sole}
 use Rattle.text.specs.Ascii.{ascii}
-use Rattle.text.specs.declared.Written.{Written}
+use Prim.Native.Nat.{ℕ}
+use Rattle.std.specs.Prelude.{Result}
+use Rattle.digits.specs.declared.refusal.Refusal.{Refusal}
 use Rattle.figures.specs.Figures.{digit_count, number_text}
 use Rattle.figures.specs.Typed.{typed_digits}
 use Rattle.figures.proofs.put_number.Reads as put_number
 use Rattle.figures.proofs.typed.put_typed.Reads as put_typed
 
-pub put_number_sole : (κs : _) (args : _) (r s : Written) (x y : _) → put_number.Post κs args r x → put_number.Post κs args s y → (r ≡ s) × (x.1.0.now ≡ y.1.0.now)
+pub put_number_sole : (κs : _) (args : _) (r s : Result ℕ Refusal) (x y : _) → put_number.Post κs args r x → put_number.Post κs args s y → (r ≡ s) × (x.1.0.now ≡ y.1.0.now)
 put_number_sole κs args r s x y p q = (sole p.0 q.0, sole p.1 q.1)
 
-pub put_typed_sole : (κs : _) (args : _) (r s : Written) (x y : _) → put_typed.Post κs args r x → put_typed.Post κs args s y → (r ≡ s) × (x.1.0.now ≡ y.1.0.now)
+pub put_typed_sole : (κs : _) (args : _) (r s : Result ℕ Refusal) (x y : _) → put_typed.Post κs args r x → put_typed.Post κs args s y → (r ≡ s) × (x.1.0.now ≡ y.1.0.now)
 put_typed_sole κs args r s x y p q = (sole p.0 q.0, sole p.1 q.1)
 
 -- around zero and at the limits

@@ -1,36 +1,30 @@
 // What the programs are given. A file: all of it, as much as the room holds, or not at all. And the arguments.
 #![tactic(auto)]
 
-ghost use Rattle.std.specs.Prelude.{◌≤◌, length};
-ghost use Rattle.input.specs.Inside.{Inside};
+ghost use Rattle.std.specs.Prelude.{◌≤◌, length, IfOk};
 ghost use Rattle.input.specs.Whole.{IsWhole};
 
 use std::env::FillError;
+use std::io;
 use std::io::Read;
 use std::rt::Env;
 
-#[derive(Clone, Copy)]
-pub enum Input {
-    Bytes(usize),
-    Failed,
-}
-
-// Reads until the input ends or the room is full. Where one read fails, nothing that was read is to be used.
-pub fn read<R: Read>(reader: &mut R, room: &mut [u8]) -> Input
-    ensures inside { Inside result (length room.new) }
-    ensures whole { IsWhole result (R.remaining reader.old) (R.remaining reader.new) room.new }
+// Reads until the input ends or the room is full, and answers how many bytes came. Where one read fails, nothing that was read is to
+// be used.
+pub fn read<R: Read>(reader: &mut R, room: &mut [u8]) -> io::Result<usize>
+    ensures inside { IfOk result (λ n. n ≤ length room.new) }
+    ensures whole { IfOk result (λ n. IsWhole n (R.remaining reader.old) (R.remaining reader.new) room.new) }
 {
     let mut done: usize = 0;
+    // By hand: `read_exact` fails where the input ends early, and `read_to_end` wants the heap.
     while done < room.len() {
-        let Ok(more) = reader.read(&mut room[done..]) else {
-            return Input::Failed;
-        };
+        let more = reader.read(&mut room[done..])?;
         if more == 0 {
-            return Input::Bytes(done);
+            break;
         }
         done += more;
     }
-    Input::Bytes(done)
+    Ok(done)
 }
 
 // Puts an argument at the start of the room, and answers its length: 0 where it is missing, or longer than the room, which then has
@@ -38,10 +32,7 @@ pub fn read<R: Read>(reader: &mut R, room: &mut [u8]) -> Input
 pub fn arg<E: Env>(env: &E, at: usize, room: &mut [u8]) -> usize
     ensures { result ≤ length room.new }
 {
-    match env.arg(at, room) {
-        Ok(n) => n,
-        Err(_) => 0,
-    }
+    env.arg(at, room).unwrap_or(0)
 }
 
 // How many arguments there are, the program's own name among them.
@@ -56,7 +47,7 @@ pub fn arg_count<E: Env>(env: &E) -> usize {
 
 #[cfg(test)]
 mod tests {
-    use super::{Input, arg, arg_count, read};
+    use super::{arg, arg_count, read};
     use std::io;
     use std::io::{ErrorKind, Read};
     use std::test::Fail;
@@ -83,7 +74,7 @@ mod tests {
         let mut bytes: &[u8] = b"deck";
         let mut room = [0u8; 6];
         let given = read(&mut bytes, &mut room);
-        assert!(rt; matches!(given, Input::Bytes(4)));
+        assert!(rt; matches!(given, Ok(4)));
         assert!(rt; room == *b"deck\0\0");
         Ok(())
     }
@@ -93,7 +84,7 @@ mod tests {
         let mut bytes: &[u8] = b"deck";
         let mut room = [0u8; 3];
         let given = read(&mut bytes, &mut room);
-        assert!(rt; matches!(given, Input::Bytes(3)));
+        assert!(rt; matches!(given, Ok(3)));
         assert!(rt; room == *b"dec");
         Ok(())
     }
@@ -103,7 +94,7 @@ mod tests {
         let mut broken = Broken { left: 1 };
         let mut room = [0u8; 3];
         let given = read(&mut broken, &mut room);
-        assert!(rt; matches!(given, Input::Failed));
+        assert!(rt; given.is_err());
         Ok(())
     }
 

@@ -3,12 +3,12 @@ use Prim.Native.Nat.{ℕ, ◌+◌, ◌-◌, ◌≤◌}
 use mathlib.Core.Path.{◌≡◌, ap, ◌∙◌}
 use mathlib.Core.List.{List, [], ◌++◌}
 use native.Mathlib.Omega.{arith}
+use Rattle.std.specs.Prelude.{Ok}
 use lib.ListN.{length, take, drop, length-append}
 use lib.Seq.{length-take-le, take-append_seam}
 use Rattle.digits.specs.Lent.{over, over_at}
-use Rattle.digits.proofs.Puts.{Put, put_next, put_all, put_size, put_at}
+use Rattle.digits.proofs.Puts.{Put, put_next, put_room, put_all, put_size, put_at}
 use Rattle.text.specs.Text.{put_of, room_after}
-use Rattle.text.specs.declared.Written.TheVariants as W
 use Rattle.text.proofs.Texts.{fits}
 
 -- one piece more: what a call put is the piece
@@ -17,11 +17,15 @@ pub then : {whole old rest w : List ℕ} {at : ℕ} → Put whole old rest w at 
 then {w = w} {at = at} p new left {t} {w'} {at'} r e (a, x) h =
     put_next p new left w' at' r (x ∙ ap (λ (y : List ℕ). over_at at y w) e) (a ∙ ap (λ (y : List ℕ). at + length y) e) h
 
+-- there is room for the next piece
+pub room_for : {whole old rest w : List ℕ} {at : ℕ} → Put whole old rest w at → (new left : List ℕ) → rest ≡ new ++ left → length whole ≤ length old → at + length new ≤ length w
+room_for p new left r h = omega (arith, put_room p new left r, p.same, h)
+
 -- all of them
-pub finished : {whole old w : List ℕ} {at : ℕ} → Put whole old [] w at → length whole ≤ length old → (W.Text at ≡ put_of whole (length old)) × (w ≡ room_after whole old)
+pub finished : {whole old w : List ℕ} {at : ℕ} → Put whole old [] w at → length whole ≤ length old → (Ok at ≡ put_of whole (length old)) × (w ≡ room_after whole old)
 finished {whole} {old} {w} {at} p h =
     let r = fits whole old h in
-    (ap W.Text (put_size p) ∙ r.0, put_all p ∙ r.1)
+    (ap Ok (put_size p) ∙ r.0, put_all p ∙ r.1)
 
 -- the same, where they go from a place on
 pub fits_past : (whole old : List ℕ) (at : ℕ) → at + length whole ≤ length old → length (take at old ++ whole) ≤ length old

@@ -1,5 +1,5 @@
 -- The columns of a line: their headings, and what they show. Assumes nothing.
-use Rattle.std.specs.Prelude.{ℕ, suc, ◌-◌, ◌/◌, ◌%◌, max, List, [], ◌∷◌, ◌++◌, length, replicate}
+use Rattle.std.specs.Prelude.{ℕ, ◌/◌, ◌%◌, max, List, [], ◌∷◌, ◌++◌, length, replicate}
 use Rattle.digits.specs.Bits.{one}
 use Rattle.text.specs.Ascii.{ascii}
 use Rattle.text.specs.Text.{hexadecimal, right}
@@ -33,18 +33,7 @@ abbrev pub cells : {X : Type 0} → List (Channel X) → X → List ℕ
 cells [] x = []
 cells (c ∷ cs) x = column c (shown c.kind (c.value x)) ++ cells cs x
 
--- ---- the same by the bytes of the record, as the code goes along it
-
--- the spaces before each byte's digits, and how many digits it has
-abbrev pub spaces_of : Kind → ℕ → List ℕ
-spaces_of byte w = suc (w - 2) ∷ []
-spaces_of pair w = suc (w - 4) ∷ 0 ∷ []
-spaces_of latch w = suc (w - 1) ∷ []
-
-abbrev pub spaces : {X : Type 0} → List (Channel X) → List ℕ
-spaces [] = []
-spaces (c ∷ cs) = spaces_of c.kind (column_width c) ++ spaces cs
-
+-- how many digits show each byte of the record
 abbrev pub counts_of : Kind → List ℕ
 counts_of byte = 2 ∷ []
 counts_of pair = 2 ∷ 2 ∷ []
@@ -57,9 +46,3 @@ digit_counts (c ∷ cs) = counts_of c.kind ++ digit_counts cs
 -- a byte after its spaces
 abbrev pub cell : ℕ → ℕ → ℕ → List ℕ
 cell before digits x = replicate before 32 ++ hexadecimal digits x
-
-abbrev pub byte_cells : List ℕ → List ℕ → List ℕ → List ℕ
-byte_cells (b ∷ bs) (d ∷ ds) (x ∷ xs) = cell b d x ++ byte_cells bs ds xs
-byte_cells (b ∷ bs) (d ∷ ds) [] = []
-byte_cells (b ∷ bs) [] xs = []
-byte_cells [] ds xs = []

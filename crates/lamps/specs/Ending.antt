@@ -1,11 +1,12 @@
 -- How a run ended, and what came of a trap. Assumes nothing.
-use Rattle.std.specs.Prelude.{ℕ, List, [], ◌∷◌, ◌++◌, get_or}
+use Rattle.std.specs.Prelude.{ℕ, List, [], ◌∷◌, ◌++◌, get_or, Result, Ok, Err}
 use Prim.Native.String.{String}
 use Rattle.text.specs.Ascii.{ascii}
 use Rattle.text.specs.Text.{hexadecimal, decimal}
 use Rattle.text.specs.Words.{words_of}
-use Rattle.trap.specs.declared.Trapped.{Trapped}
-use Rattle.trap.specs.declared.Trapped.TheVariants as T
+use Rattle.digits.specs.Refusal.{refusal_number, refusal_field}
+use Rattle.digits.specs.declared.refusal.Refusal.{Refusal}
+use Rattle.machine.specs.declared.State.{State}
 use Rattle.run.specs.declared.Ending.{Ending}
 use Rattle.run.specs.declared.Ending.TheVariants as E
 
@@ -31,12 +32,13 @@ refused_of number field at = ascii "REFUSED " ++ (decimal number ++ (field_of fi
 unfoldable pub ending_of : Ending → ℕ → List ℕ
 ending_of E.Stopped at = standing (ascii "STOPPED AT ") at
 ending_of E.Spent at = standing (ascii "SPENT AT ") at
-ending_of (E.Refused number field) at = refused_of number field at
+ending_of (E.Refused r) at = refused_of (refusal_number r) (refusal_field r) at
 
 -- a trap that was taken: the address to which, and the one of the word broken into
 abbrev pub taken_of : ℕ → ℕ → List ℕ
 taken_of to from = ascii "TRAP TO " ++ (hexadecimal 3 to ++ (ascii ", FROM " ++ (hexadecimal 3 from ++ (10 ∷ []))))
 
-unfoldable pub trapped_of : Trapped → List ℕ
-trapped_of (T.Taken t) = taken_of t.wx t.fwx
-trapped_of (T.Refused t number) = ascii "TRAP " ++ refused_of number 0 t.wx
+-- what came of a trap; a refused one stands at the address
+unfoldable pub trapped_of : Result State Refusal → ℕ → List ℕ
+trapped_of (Ok t) at = taken_of t.wx t.fwx
+trapped_of (Err r) at = ascii "TRAP " ++ refused_of (refusal_number r) 0 at

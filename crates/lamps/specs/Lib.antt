@@ -1,5 +1,6 @@
 pub mod Columns
 pub mod Line
 pub mod Picture
+pub mod Rows
 pub mod Walk
 pub mod Ending

@@ -1,5 +1,5 @@
 -- A cycle as lamps, eight rows side by side under their names. Assumes nothing.
-use Rattle.std.specs.Prelude.{ℕ, zero, suc, ◌+◌, ◌/◌, ◌%◌, List, [], ◌∷◌, ◌++◌, map, Bool, cond, not, eqb, length, take, drop}
+use Rattle.std.specs.Prelude.{ℕ, zero, suc, ◌+◌, ◌/◌, ◌%◌, List, [], ◌∷◌, ◌++◌, map, Bool, cond, length, take, drop}
 use Rattle.digits.specs.Bits.{bit}
 use Rattle.digits.specs.Lists.{joined}
 use Rattle.adder.specs.declared.Work.{Work}
@@ -62,27 +62,3 @@ picture_of cycle at s w = title_of cycle at ++ (blocks_of channels s ++ (blocks_
 -- the state before the first cycle
 unfoldable pub start_picture_of : State → List ℕ
 start_picture_of s = ascii "CYCLE      0\n" ++ (blocks_of channels s ++ (10 ∷ []))
-
--- ---- the same by the bytes of the record, as the code goes along it
-
--- the row of a byte: a latch, which has one digit, is on at any value but 0
-abbrev pub row_at : ℕ → ℕ → List ℕ
-row_at digits x = cond (eqb digits 1) (lamp (not (eqb x 0)) ∷ []) (eight x)
-
-abbrev pub byte_rows : List ℕ → List ℕ → List (List ℕ)
-byte_rows (d ∷ ds) (x ∷ xs) = row_at d x ∷ byte_rows ds xs
-byte_rows (d ∷ ds) [] = []
-byte_rows [] xs = []
-
--- a block of some bytes, under names that stand in their places
-abbrev pub block_bytes : List ℕ → List ℕ → List ℕ → List ℕ
-block_bytes names digits bytes = names ++ (10 ∷ (joined (map in_place (byte_rows digits bytes)) ++ (10 ∷ [])))
-
--- eight side by side, each under its name in nine columns
-abbrev pub byte_blocks : ℕ → List ℕ → List ℕ → List ℕ → List ℕ
-byte_blocks zero names digits bytes = []
-byte_blocks (suc n) names digits bytes =
-    block_bytes (take 72 names) (take 8 digits) (take 8 bytes) ++ byte_blocks n (drop 72 names) (drop 8 digits) (drop 8 bytes)
-
-abbrev pub blocks_bytes : List ℕ → List ℕ → List ℕ → List ℕ
-blocks_bytes names digits bytes = byte_blocks (eights (length bytes)) names digits bytes

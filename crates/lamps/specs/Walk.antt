@@ -26,15 +26,13 @@ walk_line row (number, x) = row_name row ++ (number ∷ (hex_bytes (alone row x)
 abbrev pub lamps_of : ℕ → List (ℕ × ℕ)
 lamps_of digits = cond (eqb digits 1) ((32, 1) ∷ []) (map (λ (n : ℕ). (48 + n, 2 ^ (7 - n))) (0 ∷ 1 ∷ 2 ∷ 3 ∷ 4 ∷ 5 ∷ 6 ∷ 7 ∷ []))
 
+-- the lines of some lamps
+abbrev pub lines_of : ℕ → List (ℕ × ℕ) → List ℕ
+lines_of row lamps = joined (map (walk_line row) lamps)
+
 abbrev pub walk_row : ℕ → ℕ → List ℕ
-walk_row row digits = joined (map (walk_line row) (lamps_of digits))
+walk_row row digits = lines_of row (lamps_of digits)
 
 -- all rows, in the order of the channels
 unfoldable pub walk_of : List ℕ
 walk_of = in_turn walk_row 0 (digit_counts channels)
-
--- two lists as one of pairs
-abbrev pub pairs : List ℕ → List ℕ → List (ℕ × ℕ)
-pairs (n ∷ ns) (x ∷ xs) = (n, x) ∷ pairs ns xs
-pairs (n ∷ ns) [] = []
-pairs [] xs = []

@@ -2,12 +2,69 @@
 ghost use Rattle.std.specs.Prelude.{◌≡◌, ◌+◌, ◌≤◌, length};
 ghost use Rattle.digits.specs.Lent.{over_at};
 ghost use Rattle.channels.specs.Channels.{channels, work_channels};
-ghost use Rattle.lamps.specs.Columns.{cell, byte_cells, cells};
+ghost use Rattle.lamps.specs.Columns.{cell, cells};
+ghost use Rattle.lamps.specs.Rows.{byte_cells};
 
 use adder::Work;
 use machine::State;
 
-// Puts a text at a place, and gives the place after it.
+// A row of lamps, which is a byte of a record: its name at the right end of nine columns, and in a line the spaces before the byte
+// and how many digits it has.
+#[derive(Clone, Copy)]
+pub(crate) struct Row {
+    pub name: [u8; 9],
+    pub before: u8,
+    pub digits: u8,
+}
+
+// The rows of a state.
+#[rattlefmt::skip]
+pub(crate) const ROWS: [Row; 27] = [
+    Row { name: *b"        I", before: 1, digits: 2 },
+    Row { name: *b"        J", before: 1, digits: 2 },
+    Row { name: *b"        U", before: 1, digits: 2 },
+    Row { name: *b"        V", before: 1, digits: 2 },
+    Row { name: *b"        L", before: 1, digits: 2 },
+    Row { name: *b"        T", before: 1, digits: 2 },
+    Row { name: *b"        D", before: 1, digits: 2 },
+    Row { name: *b"        R", before: 1, digits: 2 },
+    Row { name: *b"        S", before: 1, digits: 2 },
+    Row { name: *b"        G", before: 1, digits: 2 },
+    Row { name: *b"        H", before: 1, digits: 2 },
+    Row { name: *b"        M", before: 1, digits: 2 },
+    Row { name: *b"        N", before: 1, digits: 2 },
+    Row { name: *b"        W", before: 1, digits: 2 },
+    Row { name: *b"        X", before: 0, digits: 2 },
+    Row { name: *b"       AC", before: 2, digits: 1 },
+    Row { name: *b"      1BC", before: 3, digits: 1 },
+    Row { name: *b"       Z0", before: 2, digits: 1 },
+    Row { name: *b"    ALLOW", before: 2, digits: 1 },
+    Row { name: *b"    LOCAL", before: 2, digits: 1 },
+    Row { name: *b" ARRIVING", before: 2, digits: 1 },
+    Row { name: *b"     BYTE", before: 1, digits: 2 },
+    Row { name: *b" DIGIT-CY", before: 2, digits: 1 },
+    Row { name: *b"  INVALID", before: 3, digits: 1 },
+    Row { name: *b"       FW", before: 1, digits: 2 },
+    Row { name: *b"       FX", before: 0, digits: 2 },
+    Row { name: *b"     OWED", before: 2, digits: 1 },
+];
+
+// The rows of a cycle's work.
+#[rattlefmt::skip]
+pub(crate) const WORK_ROWS: [Row; 8] = [
+    Row { name: *b"        A", before: 1, digits: 2 },
+    Row { name: *b"  GATED-A", before: 1, digits: 2 },
+    Row { name: *b"        B", before: 1, digits: 2 },
+    Row { name: *b"  GATED-B", before: 1, digits: 2 },
+    Row { name: *b" ENTERS-B", before: 1, digits: 2 },
+    Row { name: *b" CARRY-IN", before: 2, digits: 1 },
+    Row { name: *b"   BEFORE", before: 5, digits: 2 },
+    Row { name: *b"    AFTER", before: 4, digits: 2 },
+];
+
+// Puts a text at a place, and gives the place after it. Room and place stay two arguments here and where this is called, as a struct
+// of both is no plainer: each contract would say of its two fields what it says of the two names. (`board` has such a struct, of whose
+// bytes nothing is promised.)
 pub(crate) fn after(text: &[u8], room: &mut [u8], at: usize) -> usize
     requires { at + length text.now ≤ length room.old }
     ensures { (result ≡ at + length text.now) × (room.new ≡ over_at at text.now room.old) }
@@ -17,82 +74,42 @@ pub(crate) fn after(text: &[u8], room: &mut [u8], at: usize) -> usize
     end
 }
 
-fn size(byte: u8) -> usize
-    ensures { result ≡ byte }
-{
-    byte as usize
-}
-
 // Puts a byte after its spaces, with its number of digits.
-pub(crate) fn put_cell(before: u8, digits: u8, byte: u8, out: &mut [u8])
-    requires { length out.old ≡ before + digits }
-    ensures { out.new ≡ cell before digits byte }
+pub(crate) fn put_cell(before: u8, digits: u8, byte: u8, room: &mut [u8], at: usize) -> usize
+    requires { at + (before + digits) ≤ length room.old }
+    ensures { (result ≡ at + length (cell before digits byte)) × (room.new ≡ over_at at (cell before digits byte) room.old) }
 {
-    let from = size(before);
-    let end = out.len();
-    text::put_spaces(&mut out[0..from]);
-    text::put_hexadecimal(byte as u64, &mut out[from..end]);
+    let from = at + before as usize;
+    let end = from + digits as usize;
+    text::put_spaces(&mut room[at..from]);
+    text::put_hexadecimal(byte as u64, &mut room[from..end]);
+    end
 }
 
 // Puts each byte of a record so.
-pub(crate) fn put_cells(spaces: &[u8], digits: &[u8], bytes: &[u8], out: &mut [u8])
-    requires spaces_len { (length spaces.now ≡ length bytes.now) × (length digits.now ≡ length bytes.now) }
-    requires bytes_len { length (byte_cells spaces.now digits.now bytes.now) ≡ length out.old }
-    ensures { out.new ≡ byte_cells spaces.now digits.now bytes.now }
+fn put_cells(rows: &[Row], bytes: &[u8], room: &mut [u8], at: usize) -> usize
+    requires { at + length (byte_cells rows.now bytes.now) ≤ length room.old }
+    ensures { (result ≡ at + length (byte_cells rows.now bytes.now)) × (room.new ≡ over_at at (byte_cells rows.now bytes.now) room.old) }
 {
-    let mut at: usize = 0;
-    let mut i: usize = 0;
-    while i < bytes.len() {
-        let end = at + size(spaces[i]) + size(digits[i]);
-        put_cell(spaces[i], digits[i], bytes[i], &mut out[at..end]);
-        at = end;
-        i += 1;
+    let mut next = at;
+    for (row, &byte) in rows.iter().zip(bytes) {
+        next = put_cell(row.before, row.digits, byte, room, next);
     }
+    next
 }
-
-// The name of each row of a state's lamps, at the right end of nine columns.
-pub(crate) const NAMES: [u8; 243] =
-    *b"        I        J        U        V        L        T        D        R        S        G        H        M        N        W        X       AC      1BC       Z0    ALLOW    LOCAL ARRIVING     BYTE DIGIT-CY  INVALID       FW       FX     OWED";
-
-// The spaces before each byte of a state's record, and its digits.
-const SPACES: [u8; 27] = [
-    1, 1, 1, 1, 1, 1, 1, 1, 1, 1, 1, 1, 1, 1, 0, 2, 3, 2, 2, 2, 2, 1, 2, 3, 1, 0, 2,
-];
-
-pub(crate) const DIGITS: [u8; 27] = [
-    2, 2, 2, 2, 2, 2, 2, 2, 2, 2, 2, 2, 2, 2, 2, 1, 1, 1, 1, 1, 1, 2, 1, 1, 2, 2, 1,
-];
-
-// The same of the work's.
-const WORK_SPACES: [u8; 8] = [1, 1, 1, 1, 1, 2, 5, 4];
-
-pub(crate) const WORK_DIGITS: [u8; 8] = [2, 2, 2, 2, 2, 1, 2, 2];
 
 // The columns of a state.
-pub(crate) fn state_cells(s: State) -> [u8; 81]
-    ensures { result ≡ cells channels s }
+pub(crate) fn state_cells(s: State, room: &mut [u8], at: usize) -> usize
+    requires { at + length (cells channels s) ≤ length room.old }
+    ensures { (result ≡ at + length (cells channels s)) × (room.new ≡ over_at at (cells channels s) room.old) }
 {
-    let record = channels::saved(s);
-    let spaces = SPACES;
-    let digits = DIGITS;
-    let mut out = [b' '; 81];
-    put_cells(
-        &spaces[0..27],
-        &digits[0..27],
-        &record[0..27],
-        &mut out[0..81],
-    );
-    out
+    put_cells(&ROWS, &channels::saved(s), room, at)
 }
 
-// The columns of a cycle's work.
-pub(crate) fn work_cells(w: Work) -> [u8; 31]
-    ensures { result ≡ cells work_channels w }
+// The columns of a cycle's work: one line, as those of a state, of other rows.
+pub(crate) fn work_cells(w: Work, room: &mut [u8], at: usize) -> usize
+    requires { at + length (cells work_channels w) ≤ length room.old }
+    ensures { (result ≡ at + length (cells work_channels w)) × (room.new ≡ over_at at (cells work_channels w) room.old) }
 {
-    let record = channels::worked(w);
-    let spaces = WORK_SPACES;
-    let digits = WORK_DIGITS;
-    let mut out = [b' '; 31];
-    put_cells(&spaces[0..8], &digits[0..8], &record[0..8], &mut out[0..31]);
-    out
+    put_cells(&WORK_ROWS, &channels::worked(w), room, at)
 }

@@ -6,9 +6,9 @@ ghost use Rattle.text.specs.Words.{words_of};
 ghost use Rattle.lamps.specs.Ending.{field_of, place_of, standing, refused_of, ending_of, taken_of, trapped_of};
 
 use crate::columns::after;
+use digits::Refusal;
+use machine::State;
 use run::Ending;
-use text::Written;
-use trap::Trapped;
 
 // A number in decimal.
 fn put_number(number: u8, room: &mut [u8], at: usize) -> usize
@@ -18,25 +18,29 @@ fn put_number(number: u8, room: &mut [u8], at: usize) -> usize
 {
     let digits = text::three_digits(number);
     let from = text::zeros_in_front(number);
-    after(&digits[from..3], room, at)
+    after(&digits[from..], room, at)
 }
 
-// A field by name, after a space; none for 0.
+// The fields of a word in their order, each after a space.
+const FIELDS: [&str; 23] = [
+    "", " CN", " PN", " PA", " CH", " CL", " CM", " CU", " CA", " AA", " CB", " CK", " AK", " PK",
+    " PS", " CD", " CF", " CG", " CV", " CC", " CS", " AS", " PC",
+];
+
+// The name of a field by its place in the word; none for 0.
+fn field_name(place: u8) -> &'static str
+    ensures { result.now ≡ field_of place }
+{
+    FIELDS.get(place as usize).copied().unwrap_or("")
+}
+
+// A field by name.
 fn put_field(field: u8, room: &mut [u8], at: usize) -> usize
     requires { at + 3 ≤ length room.old }
     ensures upper_bound { result ≤ at + 3 }
     ensures value { (result ≡ at + length (field_of field)) × (room.new ≡ over_at at (field_of field) room.old) }
 {
-    let names = *b" CN PN PA CH CL CM CU CA AA CB CK AK PK PS CD CF CG CV CC CS AS PC";
-    if field == 0 {
-        return at;
-    }
-    if 22 < field {
-        return at;
-    }
-    let from = (field as usize - 1) * 3;
-    let end = from + 3;
-    after(&names[from..end], room, at)
+    after(field_name(field).as_bytes(), room, at)
 }
 
 // An address, with what stands round it.
@@ -54,11 +58,7 @@ fn put_words(number: u8, room: &mut [u8], at: usize) -> usize
     ensures upper_bound { result ≤ at + 64 }
     ensures value { (result ≡ at + length (words_of number)) × (room.new ≡ over_at at (words_of number) room.old) }
 {
-    let end = room.len();
-    match text::words(number, &mut room[at..end]) {
-        Written::Text(size) => at + size,
-        Written::Refused(_) => at,
-    }
+    at + text::words(number, &mut room[at..]).unwrap_or(0)
 }
 
 // All of a refusal; no refusal takes more than 96 bytes.
@@ -76,15 +76,21 @@ fn put_refused(number: u8, field: u8, address: u16, room: &mut [u8]) -> usize
 }
 
 // A refusal, after the words that say of what.
-fn refused(words: &[u8], number: u8, field: u8, address: u16, room: &mut [u8]) -> Written
+pub fn refused(
+    words: &[u8],
+    number: u8,
+    field: u8,
+    address: u16,
+    room: &mut [u8],
+) -> Result<usize, Refusal>
     ensures { (result ≡ put_of (words.now ++ refused_of number field address) (length room.old)) × (room.new ≡ room_after (words.now ++ refused_of number field address) room.old) }
 {
     let mut line = [0u8; 96];
     let end = put_refused(number, field, address, &mut line);
-    text::put_both(words, &line[0..end], room)
+    text::put_both(words, &line[..end], room)
 }
 
-fn standing(words: &[u8], address: u16, room: &mut [u8]) -> Written
+fn standing(words: &[u8], address: u16, room: &mut [u8]) -> Result<usize, Refusal>
     ensures { (result ≡ put_of (standing words.now address) (length room.old)) × (room.new ≡ room_after (standing words.now address) room.old) }
 {
     let mut tail = [b'\n'; 4];
@@ -93,12 +99,12 @@ fn standing(words: &[u8], address: u16, room: &mut [u8]) -> Written
 }
 
 // An ending, and the address of the word at which the run stands.
-pub fn ending(how: Ending, address: u16, room: &mut [u8]) -> Written
+pub fn ending(how: Ending, address: u16, room: &mut [u8]) -> Result<usize, Refusal>
     ensures { (result ≡ put_of (ending_of how address) (length room.old)) × (room.new ≡ room_after (ending_of how address) room.old) }
 {
     match how {
         Ending::Stopped => standing(b"STOPPED AT ", address, room),
-        Ending::Refused(number, field) => refused(b"", number, field, address, room),
+        Ending::Refused(r) => refused(b"", r.number(), r.field(), address, room),
         Ending::Spent => standing(b"SPENT AT ", address, room),
     }
 }
@@ -113,12 +119,16 @@ fn taken(to: u16, from: u16) -> [u8; 22]
     text
 }
 
-// What came of a trap.
-pub fn trapped(answer: Trapped, room: &mut [u8]) -> Written
-    ensures { (result ≡ put_of (trapped_of answer) (length room.old)) × (room.new ≡ room_after (trapped_of answer) room.old) }
+// What came of a trap; a refused one stands at the address.
+pub fn trapped(
+    answer: Result<State, Refusal>,
+    address: u16,
+    room: &mut [u8],
+) -> Result<usize, Refusal>
+    ensures { (result ≡ put_of (trapped_of answer address) (length room.old)) × (room.new ≡ room_after (trapped_of answer address) room.old) }
 {
     match answer {
-        Trapped::Taken(s) => text::put(&taken(s.wx, s.fwx), room),
-        Trapped::Refused(s, number) => refused(b"TRAP ", number, 0, s.wx, room),
+        Ok(s) => text::put(&taken(s.wx, s.fwx), room),
+        Err(r) => refused(b"TRAP ", r.number(), 0, address, room),
     }
 }

@@ -7,7 +7,7 @@ mod lines;
 mod pictures;
 mod walks;
 
-pub use endings::{ending, trapped};
+pub use endings::{ending, refused, trapped};
 pub use lines::{header, line, start};
 pub use pictures::{picture, start_picture};
 pub use walks::walk;

@@ -5,11 +5,11 @@ ghost use Rattle.lamps.specs.Line.{header_of, front_of, line_of, start_of};
 
 use crate::columns::{after, state_cells, work_cells};
 use adder::Work;
+use digits::Refusal;
 use machine::State;
-use text::Written;
 
 // The names above the columns.
-pub fn header(room: &mut [u8]) -> Written
+pub fn header(room: &mut [u8]) -> Result<usize, Refusal>
     ensures { (result ≡ put_of header_of (length room.old)) × (room.new ≡ room_after header_of room.old) }
 {
     text::put(
@@ -29,26 +29,26 @@ fn front(cycle: u32, at: u16) -> [u8; 11]
 }
 
 // A cycle: its number, its word's address, the state after it, and its work.
-pub fn line(cycle: u32, at: u16, s: State, w: Work, room: &mut [u8]) -> Written
+pub fn line(cycle: u32, at: u16, s: State, w: Work, room: &mut [u8]) -> Result<usize, Refusal>
     ensures { (result ≡ put_of (line_of cycle at s w) (length room.old)) × (room.new ≡ room_after (line_of cycle at s w) room.old) }
 {
     if room.len() < 124 {
-        return Written::Refused(19);
+        return Err(Refusal::Room);
     }
     let next = after(&front(cycle, at), room, 0);
-    let next = after(&state_cells(s), room, next);
-    let next = after(&work_cells(w), room, next);
-    Written::Text(after(b"\n", room, next))
+    let next = state_cells(s, room, next);
+    let next = work_cells(w, room, next);
+    Ok(after(b"\n", room, next))
 }
 
 // The state before the first cycle.
-pub fn start(s: State, room: &mut [u8]) -> Written
+pub fn start(s: State, room: &mut [u8]) -> Result<usize, Refusal>
     ensures { (result ≡ put_of (start_of s) (length room.old)) × (room.new ≡ room_after (start_of s) room.old) }
 {
     if room.len() < 93 {
-        return Written::Refused(19);
+        return Err(Refusal::Room);
     }
     let next = after(b"      0 ---", room, 0);
-    let next = after(&state_cells(s), room, next);
-    Written::Text(after(b"\n", room, next))
+    let next = state_cells(s, room, next);
+    Ok(after(b"\n", room, next))
 }

@@ -1,16 +1,16 @@
 // A cycle as lamps, eight rows side by side under their names.
-ghost use Rattle.std.specs.Prelude.{◌≡◌, map, ◌+◌, ◌*◌, ◌≤◌, min, length};
+ghost use Rattle.std.specs.Prelude.{◌≡◌, ◌+◌, ◌≤◌, length};
 ghost use Rattle.digits.specs.Bits.{bit};
 ghost use Rattle.digits.specs.Lent.{over_at};
-ghost use Rattle.digits.specs.Lists.{joined};
 ghost use Rattle.text.specs.Text.{put_of, room_after};
 ghost use Rattle.channels.specs.Channels.{channels, work_channels};
-ghost use Rattle.lamps.specs.Picture.{lamp, in_place, row_at, byte_rows, block_bytes, blocks_bytes, blocks_of, title_of, picture_of, start_picture_of};
+ghost use Rattle.lamps.specs.Picture.{lamp, in_place, blocks_of, title_of, picture_of, start_picture_of};
+ghost use Rattle.lamps.specs.Rows.{row_at, names_in, rows_in, block_bytes, blocks_bytes};
 
-use crate::columns::{DIGITS, NAMES, WORK_DIGITS, after};
+use crate::columns::{ROWS, Row, WORK_ROWS, after};
 use adder::Work;
+use digits::Refusal;
 use machine::State;
-use text::Written;
 
 fn lamp(on: bool) -> u8
     ensures { result ≡ lamp on }
@@ -26,14 +26,24 @@ fn lamp_at(byte: u8, n: u8) -> u8
 }
 
 // The row of a byte: eight lamps, bit 0 first, or the one of a latch.
-fn row(digits: u8, byte: u8) -> [u8; 9]
+fn lamps_of(digits: u8, byte: u8) -> [u8; 9]
     ensures { result ≡ in_place (row_at digits byte) }
 {
     if digits == 1 {
-        return [32, 32, 32, 32, 32, 32, 32, 32, lamp(byte != 0)];
+        return [
+            b' ',
+            b' ',
+            b' ',
+            b' ',
+            b' ',
+            b' ',
+            b' ',
+            b' ',
+            lamp(byte != 0),
+        ];
     }
     [
-        32,
+        b' ',
         lamp_at(byte, 0),
         lamp_at(byte, 1),
         lamp_at(byte, 2),
@@ -45,59 +55,50 @@ fn row(digits: u8, byte: u8) -> [u8; 9]
     ]
 }
 
-// Puts the rows of a record's bytes side by side.
-fn put_rows(digits: &[u8], bytes: &[u8], out: &mut [u8])
-    requires { (length digits.now ≡ length bytes.now) × (length out.old ≡ 9 * length bytes.now) }
-    ensures { out.new ≡ joined (map in_place (byte_rows digits.now bytes.now)) }
+// Puts the names of some rows side by side.
+fn put_names(rows: &[Row], room: &mut [u8], at: usize) -> usize
+    requires { at + length (names_in rows.now) ≤ length room.old }
+    ensures { (result ≡ at + length (names_in rows.now)) × (room.new ≡ over_at at (names_in rows.now) room.old) }
 {
-    let mut i: usize = 0;
-    while i < bytes.len() {
-        let at = 9 * i;
-        let end = at + 9;
-        digits::copy(&row(digits[i], bytes[i]), &mut out[at..end]);
-        i += 1;
+    let mut next = at;
+    for row in rows {
+        next = after(&row.name, room, next);
     }
+    next
+}
+
+// Puts the rows of a record's bytes side by side.
+fn put_rows(rows: &[Row], bytes: &[u8], room: &mut [u8], at: usize) -> usize
+    requires { at + length (rows_in rows.now bytes.now) ≤ length room.old }
+    ensures { (result ≡ at + length (rows_in rows.now bytes.now)) × (room.new ≡ over_at at (rows_in rows.now bytes.now) room.old) }
+{
+    let mut next = at;
+    for (row, &byte) in rows.iter().zip(bytes) {
+        next = after(&lamps_of(row.digits, byte), room, next);
+    }
+    next
 }
 
 // Puts a line of names, and the rows below them.
-fn put_block(names: &[u8], digits: &[u8], bytes: &[u8], room: &mut [u8], at: usize) -> usize
-    requires digits_len { (length digits.now ≡ length bytes.now) × (length bytes.now ≤ 8) }
-    requires bytes_in_bounds { at + (length names.now + (9 * length bytes.now + 2)) ≤ length room.old }
-    ensures { (result ≡ at + length (block_bytes names.now digits.now bytes.now)) × (room.new ≡ over_at at (block_bytes names.now digits.now bytes.now) room.old) }
+fn put_block(rows: &[Row], bytes: &[u8], room: &mut [u8], at: usize) -> usize
+    requires { at + (length (names_in rows.now) + (length (rows_in rows.now bytes.now) + 2)) ≤ length room.old }
+    ensures { (result ≡ at + length (block_bytes rows.now bytes.now)) × (room.new ≡ over_at at (block_bytes rows.now bytes.now) room.old) }
 {
-    let named = after(names, room, at);
-    let from = after(b"\n", room, named);
-    let end = from + 9 * bytes.len();
-    put_rows(digits, bytes, &mut room[from..end]);
-    after(b"\n", room, end)
-}
-
-fn least(a: usize, b: usize) -> usize
-    ensures { result ≡ min a b }
-{
-    if a < b { a } else { b }
+    let next = put_names(rows, room, at);
+    let next = after(b"\n", room, next);
+    let next = put_rows(rows, bytes, room, next);
+    after(b"\n", room, next)
 }
 
 // Puts the rows of a record under their names, eight side by side.
-fn put_blocks(names: &[u8], digits: &[u8], bytes: &[u8], room: &mut [u8], at: usize) -> usize
-    requires names_len { (length names.now ≡ 9 * length bytes.now) × (length digits.now ≡ length bytes.now) }
-    requires bytes_in_bounds { at + length (blocks_bytes names.now digits.now bytes.now) ≤ length room.old }
-    ensures { (result ≡ at + length (blocks_bytes names.now digits.now bytes.now)) × (room.new ≡ over_at at (blocks_bytes names.now digits.now bytes.now) room.old) }
+fn put_blocks(rows: &[Row], bytes: &[u8], room: &mut [u8], at: usize) -> usize
+    requires bytes_len { length rows.now ≡ length bytes.now }
+    requires room_len { at + length (blocks_bytes rows.now bytes.now) ≤ length room.old }
+    ensures { (result ≡ at + length (blocks_bytes rows.now bytes.now)) × (room.new ≡ over_at at (blocks_bytes rows.now bytes.now) room.old) }
 {
     let mut next = at;
-    let mut row: usize = 0;
-    while row < bytes.len() {
-        let end = least(row + 8, bytes.len());
-        let from = 9 * row;
-        let to = 9 * end;
-        next = put_block(
-            &names[from..to],
-            &digits[row..end],
-            &bytes[row..end],
-            room,
-            next,
-        );
-        row += 8;
+    for (block, part) in rows.chunks(8).zip(bytes.chunks(8)) {
+        next = put_block(block, part, room, next);
     }
     next
 }
@@ -106,20 +107,14 @@ fn put_state(s: State, room: &mut [u8], at: usize) -> usize
     requires { at + length (blocks_of channels s) ≤ length room.old }
     ensures { (result ≡ at + length (blocks_of channels s)) × (room.new ≡ over_at at (blocks_of channels s) room.old) }
 {
-    put_blocks(&NAMES, &DIGITS, &channels::saved(s), room, at)
+    put_blocks(&ROWS, &channels::saved(s), room, at)
 }
 
 fn put_work(w: Work, room: &mut [u8], at: usize) -> usize
     requires { at + length (blocks_of work_channels w) ≤ length room.old }
     ensures { (result ≡ at + length (blocks_of work_channels w)) × (room.new ≡ over_at at (blocks_of work_channels w) room.old) }
 {
-    put_blocks(
-        b"        A  GATED-A        B  GATED-B ENTERS-B CARRY-IN   BEFORE    AFTER",
-        &WORK_DIGITS,
-        &channels::worked(w),
-        room,
-        at,
-    )
+    put_blocks(&WORK_ROWS, &channels::worked(w), room, at)
 }
 
 fn title(cycle: u32, at: u16) -> [u8; 20]
@@ -132,26 +127,26 @@ fn title(cycle: u32, at: u16) -> [u8; 20]
 }
 
 // A cycle: its number and its word's address, the state after it, and its work.
-pub fn picture(cycle: u32, at: u16, s: State, w: Work, room: &mut [u8]) -> Written
+pub fn picture(cycle: u32, at: u16, s: State, w: Work, room: &mut [u8]) -> Result<usize, Refusal>
     ensures { (result ≡ put_of (picture_of cycle at s w) (length room.old)) × (room.new ≡ room_after (picture_of cycle at s w) room.old) }
 {
     if room.len() < 661 {
-        return Written::Refused(19);
+        return Err(Refusal::Room);
     }
     let next = after(&title(cycle, at), room, 0);
     let next = put_state(s, room, next);
     let next = put_work(w, room, next);
-    Written::Text(after(b"\n", room, next))
+    Ok(after(b"\n", room, next))
 }
 
 // The state before the first cycle.
-pub fn start_picture(s: State, room: &mut [u8]) -> Written
+pub fn start_picture(s: State, room: &mut [u8]) -> Result<usize, Refusal>
     ensures { (result ≡ put_of (start_picture_of s) (length room.old)) × (room.new ≡ room_after (start_picture_of s) room.old) }
 {
     if room.len() < 508 {
-        return Written::Refused(19);
+        return Err(Refusal::Room);
     }
     let next = after(b"CYCLE      0\n", room, 0);
     let next = put_state(s, room, next);
-    Written::Text(after(b"\n", room, next))
+    Ok(after(b"\n", room, next))
 }

@@ -1,94 +1,83 @@
 // The walk: one record after the other with exactly one lamp lit, each with the lamp's name.
-ghost use Rattle.std.specs.Prelude.{◌≡◌, map, ◌*◌, ◌<◌, length};
-ghost use Rattle.digits.specs.Lists.{joined};
+ghost use Rattle.std.specs.Prelude.{◌≡◌, ◌+◌, ◌*◌, ◌<◌, ◌≤◌, length};
+ghost use Rattle.digits.specs.Lent.{over_at};
 ghost use Rattle.channels.specs.Channels.{record_length};
 ghost use Rattle.text.specs.Text.{put_of, room_after};
-ghost use Rattle.lamps.specs.Walk.{row_name, pairs, walk_line, walk_row, walk_of};
+ghost use Rattle.lamps.specs.Walk.{hex_bytes, walk_line, lines_of, walk_row, walk_of};
 
-use crate::columns::{DIGITS, NAMES, after, put_cells};
-use text::Written;
+use crate::columns::{ROWS, after, put_cell};
+use digits::Refusal;
 
-// The name of a row of lamps, at the right end of nine columns.
-fn name(row: usize) -> [u8; 9]
-    requires { row < record_length }
-    ensures { result ≡ row_name row }
+// Puts a record in hexadecimal.
+fn put_record(bytes: &[u8], room: &mut [u8], at: usize) -> usize
+    requires { at + 3 * length bytes.now ≤ length room.old }
+    ensures { (result ≡ at + length (hex_bytes bytes.now)) × (room.new ≡ over_at at (hex_bytes bytes.now) room.old) }
 {
-    let names = NAMES;
-    let from = row * 9;
-    let end = from + 9;
-    let mut name = [b' '; 9];
-    digits::copy(&names[from..end], &mut name[0..9]);
-    name
+    let mut next = at;
+    for &byte in bytes {
+        next = put_cell(1, 2, byte, room, next);
+    }
+    next
 }
 
 // Puts a lamp: its row's name, its number in the row, and the record that lights it alone.
-fn put_lamp(row: usize, number: u8, byte: u8, out: &mut [u8])
-    requires { (row < record_length) × (length out.old ≡ 92) }
-    ensures { out.new ≡ walk_line row (number, byte) }
+fn put_lamp(row: usize, number: u8, byte: u8, room: &mut [u8], at: usize) -> usize
+    requires { (row < record_length) × (at + 92 ≤ length room.old) }
+    ensures { (result ≡ at + length (walk_line row (number, byte))) × (room.new ≡ over_at at (walk_line row (number, byte)) room.old) }
 {
-    let mut lit = [0u8; 27];
+    let mut lit = [0; 27];
     lit[row] = byte;
-    let spaces = [1u8; 27];
-    let digits = [2u8; 27];
-    let at = after(&name(row), out, 0);
-    after(&[number], out, at);
-    put_cells(
-        &spaces[0..27],
-        &digits[0..27],
-        &lit[0..27],
-        &mut out[10..91],
-    );
-    after(b"\n", out, 91);
+    let next = after(&ROWS[row].name, room, at);
+    let next = after(&[number], room, next);
+    let next = put_record(&lit, room, next);
+    after(b"\n", room, next)
 }
 
 // Puts some lamps of a row, by their numbers and the bytes that light them.
-fn put_lamps(row: usize, numbers: &[u8], bytes: &[u8], out: &mut [u8])
-    requires { (row < record_length) × ((length numbers.now ≡ length bytes.now) × (length out.old ≡ 92 * length bytes.now)) }
-    ensures { out.new ≡ joined (map (walk_line row) (pairs numbers.now bytes.now)) }
+fn put_lamps(row: usize, lamps: &[(u8, u8)], room: &mut [u8], at: usize) -> usize
+    requires { (row < record_length) × (at + 92 * length lamps.now ≤ length room.old) }
+    ensures { (result ≡ at + length (lines_of row lamps.now)) × (room.new ≡ over_at at (lines_of row lamps.now) room.old) }
 {
-    let mut i: usize = 0;
-    while i < bytes.len() {
-        let at = 92 * i;
-        let end = at + 92;
-        put_lamp(row, numbers[i], bytes[i], &mut out[at..end]);
-        i += 1;
+    let mut next = at;
+    for lamp in lamps {
+        next = put_lamp(row, lamp.0, lamp.1, room, next);
     }
+    next
 }
 
-// How many bytes the lamps of a row take: one lamp of a latch, eight of a byte.
-fn row_size(digits: u8) -> usize
-    ensures { result ≡ length (walk_row 0 digits) }
-{
-    if digits == 1 { 92 } else { 736 }
-}
+// The lamps of a byte.
+const EIGHT: [(u8, u8); 8] = [
+    (b'0', 128),
+    (b'1', 64),
+    (b'2', 32),
+    (b'3', 16),
+    (b'4', 8),
+    (b'5', 4),
+    (b'6', 2),
+    (b'7', 1),
+];
 
-// Puts all lamps of a row.
-fn put_row(row: usize, digits: u8, out: &mut [u8])
-    requires { (row < record_length) × (length out.old ≡ length (walk_row 0 digits)) }
-    ensures { out.new ≡ walk_row row digits }
+// Puts all lamps of a row: the one of a latch, or the eight of a byte.
+fn put_row(row: usize, digits: u8, room: &mut [u8], at: usize) -> usize
+    requires { (row < record_length) × (at + length (walk_row row digits) ≤ length room.old) }
+    ensures { (result ≡ at + length (walk_row row digits)) × (room.new ≡ over_at at (walk_row row digits) room.old) }
 {
     if digits == 1 {
-        put_lamps(row, b" ", &[1], out);
-        return;
+        return put_lamps(row, &[(b' ', 1)], room, at);
     }
-    put_lamps(row, b"01234567", &[128, 64, 32, 16, 8, 4, 2, 1], out);
+    put_lamps(row, &EIGHT, room, at)
 }
 
 // All rows, in the order of the channels.
-pub fn walk(room: &mut [u8]) -> Written
+pub fn walk(room: &mut [u8]) -> Result<usize, Refusal>
     ensures { (result ≡ put_of walk_of (length room.old)) × (room.new ≡ room_after walk_of room.old) }
 {
     if room.len() < 14076 {
-        return Written::Refused(19);
+        return Err(Refusal::Room);
     }
-    let digits = DIGITS;
-    let mut at: usize = 0;
-    let mut row: usize = 0;
-    while row < 27 {
-        let end = at + row_size(digits[row]);
-        put_row(row, digits[row], &mut room[at..end]);
-        at = end;
-        row += 1;
+    let mut next = 0;
+    for (i, row) in ROWS.iter().enumerate() {
+        next = put_row(i, row.digits, room, next);
     }
-    Written::Text(at)
+    Ok(next)
 }

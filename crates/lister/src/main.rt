@@ -1,42 +1,28 @@
 // Prints the deck on standard input: a line for each word, or how it is refused.
 #![tactic(auto)]
 
-use input::Input;
-use text::Written;
-
-// The descriptors of standard output and standard error.
-const STDOUT_FILENO: i32 = 1;
-
-const STDERR_FILENO: i32 = 2;
-
-fn tell(line: &[u8]) {
-    io::write_all(STDERR_FILENO, line);
-}
-
-// A line of a word begins with a digit, and a refusal with its name.
-fn tell_refusal(text: &[u8]) {
-    if digits::byte_at(text, 0) == b'R' {
-        tell(b"lister: the deck is refused; docs/NUMBERS.md has the numbers in words\n");
-    }
-}
+use std::io::Print;
 
 // The deck's room is one byte longer than any deck: longer input fills it, and is refused by 15.
-// The text's room is 19 bytes for each of 4,096 words, which holds the text of every deck. A program
-// has no exit status, so a failure is told on standard error.
+// The text's room is 19 bytes for each of 4,096 words, which holds the text of every deck. The program
+// ends with 0 all the same: the root command gives 1 where anything stands on standard error.
 fn main(rt: HostRuntime) {
     let mut deck = [0u8; 34305];
-    let input = input::read(&mut rt.stdin(), &mut deck);
-    let Input::Bytes(length) = input else {
-        tell(b"lister: the input was not read\n");
+    let Ok(length) = input::read(&mut rt.stdin(), &mut deck) else {
+        let _ = eprintln!(rt; "lister: the input was not read");
         return;
     };
     let mut text = [0u8; 77824];
-    let listed = listing::print(&deck[0..length], &mut text);
-    let Written::Text(size) = listed else {
+    let Ok(size) = listing::print(&deck[..length], &mut text) else {
         return;
     };
-    if !io::write_all(STDOUT_FILENO, &text[0..size]) {
-        tell(b"lister: the text was not written\n");
+    if rt.write_all(&text[..size]).is_err() {
+        let _ = eprintln!(rt; "lister: the text was not written");
     }
-    tell_refusal(&text);
+    // a line of a word begins with a digit, and a refusal with its name
+    if text[0] == b'R' {
+        let _ = eprintln!(rt;
+            "lister: the deck is refused; docs/NUMBERS.md has the numbers in words"
+        );
+    }
 }

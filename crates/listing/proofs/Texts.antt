@@ -6,13 +6,14 @@ use mathlib.Core.Bool.{Bool, true, false, cond}
 use native.Mathlib.Nat.{zero-add}
 use native.Mathlib.Omega.{arith}
 use lib.ListN.{length, get_or, take, drop, length-append}
-use Rattle.digits.specs.Refusal.{first}
-use Rattle.digits.proofs.Refusals.{same_refusal}
+use Rattle.std.specs.Prelude.{None, Ok, Err}
+use Rattle.digits.specs.declared.refusal.Refusal.{Refusal}
+use Rattle.digits.specs.Refusal.{refusal_number, first}
+use Rattle.digits.proofs.Refusals.{result_tells, same_refusal}
 use Rattle.digits.specs.Lists.{in_turn}
 use Rattle.deck.specs.Deck.{read_checks, read_of, words_after, words_of}
-use Rattle.deck.specs.declared.ReadIn.TheVariants as R
 use Rattle.digits.proofs.Lists.{placed_step}
-use Rattle.deck.proofs.Answers.{reading_tells, was_read, taken}
+use Rattle.deck.proofs.Answers.{was_read, taken}
 use Rattle.listing.specs.Listing.{text_line, lines_of, refusal_of, text_of}
 
 -- ---- lines
@@ -47,16 +48,16 @@ tail_is false false h t u = refl
 
 -- ---- what is printed of a deck
 
-pub text_of_words : (deck words : List ℕ) (n : ℕ) → length words ≡ 4096 → read_of deck (length words) ≡ R.Words n → (n ≤ 4096) × (lines_of (take n (words_after deck words)) ≡ text_of deck)
+pub text_of_words : (deck words : List ℕ) (n : ℕ) → length words ≡ 4096 → read_of deck (length words) ≡ Ok n → (n ≤ 4096) × (lines_of (take n (words_after deck words)) ≡ text_of deck)
 unfolding text_of
 text_of_words deck words n l e =
     let r = was_read deck (length words) n e in
     let fits = r.fits in
     let count = r.count in
-    let c : first (read_checks deck 4096) ≡ 0 = rw l at r.all in
+    let c : first (read_checks deck 4096) ≡ None = rw l at r.all in
     (omega arith, rw (taken deck words n r, c))
 
-pub text_of_refusal : (deck : List ℕ) (n : ℕ) → read_of deck 4096 ≡ R.Refused n → refusal_of n ≡ text_of deck
+pub text_of_refusal : (deck : List ℕ) (r : Refusal) → read_of deck 4096 ≡ Err r → refusal_of (refusal_number r) ≡ text_of deck
 unfolding read_of text_of
-text_of_refusal deck n e =
-    sym (same_refusal reading_tells (length (words_of deck)) refusal_of (lines_of (words_of deck)) (first (read_checks deck 4096)) n e)
+text_of_refusal deck r e =
+    sym (same_refusal result_tells (length (words_of deck)) (λ q. refusal_of (refusal_number q)) (lines_of (words_of deck)) (first (read_checks deck 4096)) r e)

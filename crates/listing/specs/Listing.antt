@@ -1,6 +1,6 @@
 -- The lister's text. Assumes nothing.
 use Rattle.std.specs.Prelude.{ℕ, List, [], ◌∷◌, ◌++◌}
-use Rattle.digits.specs.Refusal.{first, answer}
+use Rattle.digits.specs.Refusal.{refusal_number, first, answer}
 use Rattle.digits.specs.Lists.{in_turn}
 use Rattle.text.specs.Ascii.{ascii}
 use Rattle.text.specs.Text.{hexadecimal, decimal}
@@ -20,4 +20,4 @@ refusal_of n = ascii "REFUSED " ++ (decimal n ++ (10 ∷ []))
 
 -- what is printed of a deck, from a room of 4,096 words
 unfoldable pub text_of : List ℕ → List ℕ
-text_of deck = answer (first (read_checks deck 4096)) refusal_of (lines_of (words_of deck))
+text_of deck = answer (first (read_checks deck 4096)) (λ r. refusal_of (refusal_number r)) (lines_of (words_of deck))

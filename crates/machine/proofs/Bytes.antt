@@ -11,7 +11,9 @@ use Rattle.digits.specs.Digits.{high, low}
 use Rattle.digits.proofs.Bits.{one_lt, with_lt}
 use Rattle.digits.proofs.Table.{any}
 use Rattle.digits.proofs.Truth.{zero_one}
+use Rattle.std.specs.Prelude.{Option, Some, None}
 use Rattle.digits.specs.Refusal.{first}
+use Rattle.digits.specs.declared.refusal.Refusal.{Refusal}
 use Rattle.word.specs.Layout.{fields_of}
 use Rattle.word.specs.Parity.{ca_to_w, k_to_w, is_return}
 use Rattle.word.specs.declared.Fields.{Fields}
@@ -226,11 +228,11 @@ ran_sound reading f main local s t cn ca ck h e =
       in_local = kept_bytes (a.puts && a.local) _ local (set_bytes local a.n (entered f s).r h.in_local b.r) h.in_local;
     }
 
-decided_sound : (reading : Reading) (n : ℕ) (stop : Bool) (f : Fields) (main local : List ℕ) (s t : State) → f.cn < 64 → f.ca < 16 → f.ck < 16 → Sound s main local
-    → (decided reading n stop f main local s).answer ≡ Ran t → Sound t (decided reading n stop f main local s).main (decided reading n stop f main local s).local
-decided_sound reading (suc n) stop f main local s t cn ca ck h e = absurd (zero_one cc)
-decided_sound reading zero true f main local s t cn ca ck h e = absurd (zero_one cc)
-decided_sound reading zero false f main local s t cn ca ck h e = ran_sound reading f main local s t cn ca ck h e
+decided_sound : (reading : Reading) (k : Option Refusal) (stop : Bool) (f : Fields) (main local : List ℕ) (s t : State) → f.cn < 64 → f.ca < 16 → f.ck < 16 → Sound s main local
+    → (decided reading k stop f main local s).answer ≡ Ran t → Sound t (decided reading k stop f main local s).main (decided reading k stop f main local s).local
+decided_sound reading (Some r) stop f main local s t cn ca ck h e = absurd (zero_one cc)
+decided_sound reading None true f main local s t cn ca ck h e = absurd (zero_one cc)
+decided_sound reading None false f main local s t cn ca ck h e = ran_sound reading f main local s t cn ca ck h e
 
 pub bytes_stay : (fence : Fence) (reading : Reading) (store main local : List ℕ) (s t : State) → Sound s main local → (cycle_in fence reading store main local s).answer ≡ Ran t
     → Sound t (cycle_in fence reading store main local s).main (cycle_in fence reading store main local s).local

@@ -1,19 +1,21 @@
 -- One cycle, by what its checks find. Assumes nothing.
-use Prim.Native.Nat.{ℕ, zero, suc, ◌<◌, ◌≤◌}
-use mathlib.Core.Path.{◌≡◌, refl, sym, ap, ◌∙◌}
+use Prim.Native.Nat.{ℕ, ◌<◌, ◌≤◌}
+use mathlib.Core.Path.{◌≡◌, sym, ap, ◌∙◌}
 use mathlib.Core.List.{List, ◌++◌}
 use mathlib.Core.Bool.{true, false}
 use native.Mathlib.Omega.{arith}
-use borrow.Author.Tests.{leb-false, ne_eqb}
+use borrow.Author.Tests.{leb-false}
 use lib.Dec.{leb}
 use lib.ListN.{length}
-use Rattle.digits.specs.Refusal.{Check, first}
-use Rattle.digits.proofs.Refusals.{first_append, first_lt}
-use Rattle.digits.proofs.Sizes.{right_storage, right_sizes}
+use Rattle.std.specs.Prelude.{Option, Some, None, Ok}
+use Rattle.digits.specs.Refusal.{Check, first, answer}
+use Rattle.digits.specs.declared.refusal.Refusal.{Refusal}
+use Rattle.digits.specs.declared.refusal.Refusal.TheVariants as R
+use Rattle.digits.proofs.Refusals.{first_append}
+use Rattle.digits.proofs.Sizes.{right_sizes}
 use Rattle.word.specs.Layout.{line_of, fields_of}
 use Rattle.word.specs.Word.{fault_checks, fault_of, taken_apart}
 use Rattle.word.specs.declared.Fields.{Fields}
-use Rattle.word.specs.declared.Apart.TheVariants as A
 use Rattle.codes.specs.Modelled.{unmodelled_of}
 use Rattle.codes.specs.declared.Reading.{Reading}
 use Rattle.adder.specs.declared.Sum.{Sum}
@@ -33,15 +35,11 @@ module _ (fence : Fence) (reading : Reading) (f : Fields) (main local : List ℕ
   pub on_stop : stops f ≡ true → step_of fence reading f main local s ≡ outcome (Stopped s) main local
   on_stop e = rw e
 
-  pub on_10 : stops f ≡ false → (unmodelled_of reading f ≡ 0 → ⊥) → step_of fence reading f main local s ≡ outcome (Refused s 10 (unmodelled_of reading f)) main local
-  on_10 e u = rw (e, ne_eqb (unmodelled_of reading f) 0 u)
+  pub on_10 : stops f ≡ false → {place : ℕ} → unmodelled_of reading f ≡ Some place → step_of fence reading f main local s ≡ outcome (Refused s (R.NotModelled place)) main local
+  on_10 e u = rw (e, u)
 
-  module _ (e : stops f ≡ false) (u : unmodelled_of reading f ≡ 0) where
-    pub on_11 : outside fence (length main) (access_in f s) ≡ true → step_of fence reading f main local s ≡ outcome (Refused s 11 0) main local
-    on_11 o = rw (e, u, o)
-
-    pub on_ran : outside fence (length main) (access_in f s) ≡ false → step_of fence reading f main local s ≡ ran_of reading f main local s
-    on_ran o = rw (e, u, o)
+  pub on_ran : stops f ≡ false → unmodelled_of reading f ≡ None → outside fence (length main) (access_in f s) ≡ false → step_of fence reading f main local s ≡ ran_of reading f main local s
+  on_ran e u o = rw (e, u, o)
 
 -- the state after the fields of a word
 abbrev pub after_fields : Reading → Fields → List ℕ → List ℕ → State → State
@@ -67,20 +65,13 @@ fields_small w f e = rw e (omega arith)
 pub address_fits : (store main local wx : ℕ) → sizes_wrong store main local ≡ false → leb store wx ≡ false → wx ≤ 4095
 address_fits store main local wx h l = omega (arith, (right_sizes store main local h).0, leb-false store wx l)
 
-pub local_fits : (store main local : ℕ) → sizes_wrong store main local ≡ false → local ≡ 256
-local_fits store main local h = (right_storage main local (right_sizes store main local h).1).1
-
-decided_refused : (reading : Reading) (n : ℕ) (f : Fields) (main local : List ℕ) (s : State) → n < 10 → (n ≡ 0 → ⊥) → decided reading n (stops f) f main local s ≡ outcome (Refused s n 0) main local
-decided_refused reading zero f main local s h z = absurd (z refl)
-decided_refused reading (suc n) f main local s h z = rw (ne_eqb (suc n) 10 (λ e. omega arith))
-
 module _ (fence : Fence) (reading : Reading) (store main local : List ℕ) (s : State) where
-  pub on_1 : sizes_wrong (length store) (length main) (length local) ≡ true → cycle_in fence reading store main local s ≡ outcome (Refused s 1 0) main local
+  pub on_1 : sizes_wrong (length store) (length main) (length local) ≡ true → cycle_in fence reading store main local s ≡ outcome (Refused s R.Size) main local
   unfolding cycle_in
   on_1 e = rw e
 
   module _ (sizes : sizes_wrong (length store) (length main) (length local) ≡ false) where
-    pub on_2 : leb (length store) s.wx ≡ true → cycle_in fence reading store main local s ≡ outcome (Refused s 2 0) main local
+    pub on_2 : leb (length store) s.wx ≡ true → cycle_in fence reading store main local s ≡ outcome (Refused s R.NoWord) main local
     unfolding cycle_in
     on_2 e = rw (sizes, e)
 
@@ -89,23 +80,25 @@ module _ (fence : Fence) (reading : Reading) (store main local : List ℕ) (s : 
       late : first (cycle_checks fence reading store main local s) ≡ first (fault_checks (word_at store s) s.wx (line_of (word_at store s)) ++ step_checks fence reading (fields_of (word_at store s)) (length main) s)
       late = rw (sizes, inside)
 
-      pub on_fault : (fault_of (word_at store s) s.wx ≡ 0 → ⊥) → cycle_in fence reading store main local s ≡ outcome (Refused s (fault_of (word_at store s) s.wx) 0) main local
-      unfolding cycle_in fault_of
-      on_fault z =
-          let f : Fields = fields_of (word_at store s) in
-          let faults : List Check = fault_checks (word_at store s) s.wx (line_of (word_at store s)) in
-          ap (λ (n : ℕ). decided reading n (stops f) f main local s) {y = first faults} (late ∙ first_append faults (step_checks fence reading f (length main) s) tt ∙ rw (ne_eqb (first faults) 0 z))
-          ∙ decided_refused reading (first faults) f main local s (first_lt 10 faults (omega arith) tt) z
+      module _ (found : Option Refusal) (e : fault_of (word_at store s) s.wx ≡ found) where
+        -- the word's own refusal, else those of its fields
+        by_fault : cycle_in fence reading store main local s
+            ≡ decided reading (answer found Some (first (step_checks fence reading (fields_of (word_at store s)) (length main) s))) (stops (fields_of (word_at store s))) (fields_of (word_at store s)) main local s
+        unfolding cycle_in fault_of
+        by_fault =
+            let f : Fields = fields_of (word_at store s) in
+            let steps : List (Check Refusal) = step_checks fence reading f (length main) s in
+            ap (λ (k : Option Refusal). decided reading k (stops f) f main local s)
+            (late ∙ first_append (fault_checks (word_at store s) s.wx (line_of (word_at store s))) steps ∙ ap (λ (k : Option Refusal). answer k Some (first steps)) e)
 
-      pub on_fields : fault_of (word_at store s) s.wx ≡ 0 → cycle_in fence reading store main local s ≡ step_of fence reading (fields_of (word_at store s)) main local s
-      unfolding cycle_in fault_of
-      on_fields e =
-          let f : Fields = fields_of (word_at store s) in
-          let faults : List Check = fault_checks (word_at store s) s.wx (line_of (word_at store s)) in
-          ap (λ (n : ℕ). decided reading n (stops f) f main local s) {y = first (step_checks fence reading f (length main) s)} (late ∙ first_append faults (step_checks fence reading f (length main) s) tt ∙ rw e)
+      pub on_fault : (r : Refusal) → fault_of (word_at store s) s.wx ≡ Some r → cycle_in fence reading store main local s ≡ outcome (Refused s r) main local
+      on_fault r = by_fault (Some r)
+
+      pub on_fields : fault_of (word_at store s) s.wx ≡ None → cycle_in fence reading store main local s ≡ step_of fence reading (fields_of (word_at store s)) main local s
+      on_fields = by_fault None
 
       -- by what taking the word apart gives
-      pub on_apart : (f : Fields) → taken_apart (word_at store s) s.wx ≡ A.Fields f → step_of fence reading f main local s ≡ cycle_in fence reading store main local s
+      pub on_apart : (f : Fields) → taken_apart (word_at store s) s.wx ≡ Ok f → step_of fence reading f main local s ≡ cycle_in fence reading store main local s
       on_apart f e =
           let (none, same) = apart_fields (word_at store s) s.wx f e in
           ap (λ (g : Fields). step_of fence reading g main local s) (sym same) ∙ sym (on_fields none)

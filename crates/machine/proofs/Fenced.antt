@@ -7,8 +7,11 @@ use native.Mathlib.Omega.{arith}
 use mathlib.Core.Logic.{⊎_elim}
 use lib.ListN.{length, get_or, set, length-set}
 use lib.Seq.{get_or-set_other}
+use Rattle.std.specs.Prelude.{Option, Some, None}
 use Rattle.digits.specs.Refusal.{Check, first}
 use Rattle.digits.specs.Sizes.{sizes_wrong}
+use Rattle.digits.specs.declared.refusal.Refusal.{Refusal}
+use Rattle.digits.specs.declared.refusal.Refusal.TheVariants as R
 use Rattle.digits.proofs.Refusals.{first_none}
 use Rattle.digits.proofs.Table.{each_split}
 use Rattle.word.specs.Layout.{line_of, fields_of}
@@ -27,11 +30,11 @@ use Rattle.machine.specs.declared.Cycled.TheVariants.{Ran}
 
 -- past all checks the address is in the fence
 past_11 : (fence : Fence) (reading : Reading) (store main local : List ℕ) (s : State) → let f = fields_of (word_at store s) in
-    first (cycle_checks fence reading store main local s) ≡ 0 → stops f ≡ false → outside fence (length main) (access_in f s) ≡ false
+    first (cycle_checks fence reading store main local s) ≡ None → stops f ≡ false → outside fence (length main) (access_in f s) ≡ false
 past_11 fence reading store main local s e on =
     let w : ℕ = word_at store s in
-    let none = first_none (cycle_checks fence reading store main local s) tt e in
-    let steps = (each_split (λ (c : Check). c.1 ≡ false) (fault_checks w s.wx (line_of w)) (step_checks fence reading (fields_of w) (length main) s) none.1.1).1 in
+    let none = first_none (cycle_checks fence reading store main local s) e in
+    let steps = (each_split (λ (c : Check Refusal). c.1 ≡ false) (fault_checks w s.wx (line_of w)) (step_checks fence reading (fields_of w) (length main) s) none.1.1).1 in
     rw on at steps.1.0
 
 -- ---- what runs
@@ -91,28 +94,28 @@ module _ (fence : Fence) (reading : Reading) (f : Fields) (local : List ℕ) (s 
         in_local = refl;
       }
 
-  decided_alike : (n : ℕ) (stop : Bool) (m k : List ℕ) → (n ≡ 0 → stop ≡ false → outside fence (length m) (access_in f s) ≡ false) → SameIn fence m k
-      → AlikeIn fence (decided reading n stop f m local s) (decided reading n stop f k local s)
-  decided_alike (suc n) stop m k past same = record { answer = refl; in_main = same; in_local = refl }
-  decided_alike zero true m k past same = record { answer = refl; in_main = same; in_local = refl }
-  decided_alike zero false m k past same = ran_alike m k (past refl refl) same
+  decided_alike : (found : Option Refusal) (stop : Bool) (m k : List ℕ) → (found ≡ None → stop ≡ false → outside fence (length m) (access_in f s) ≡ false) → SameIn fence m k
+      → AlikeIn fence (decided reading found stop f m local s) (decided reading found stop f k local s)
+  decided_alike (Some r) stop m k past same = record { answer = refl; in_main = same; in_local = refl }
+  decided_alike None true m k past same = record { answer = refl; in_main = same; in_local = refl }
+  decided_alike None false m k past same = ran_alike m k (past refl refl) same
 
-  decided_keeps : (n : ℕ) (stop : Bool) (m : List ℕ) (i : ℕ) → (n ≡ 0 → stop ≡ false → outside fence (length m) (access_in f s) ≡ false) → Beyond fence i
-      → get_or (decided reading n stop f m local s).main i 0 ≡ get_or m i 0
+  decided_keeps : (found : Option Refusal) (stop : Bool) (m : List ℕ) (i : ℕ) → (found ≡ None → stop ≡ false → outside fence (length m) (access_in f s) ≡ false) → Beyond fence i
+      → get_or (decided reading found stop f m local s).main i 0 ≡ get_or m i 0
   unfolding ran_of
-  decided_keeps (suc n) stop m i past out = refl
-  decided_keeps zero true m i past out = refl
-  decided_keeps zero false m i past out = main_keeps fence (access_in f s) m (entered f s).r i (past refl refl) out
+  decided_keeps (Some r) stop m i past out = refl
+  decided_keeps None true m i past out = refl
+  decided_keeps None false m i past out = main_keeps fence (access_in f s) m (entered f s).r i (past refl refl) out
 
 pub reads_inside : ReadsInside
 unfolding cycle_in
 reads_inside fence reading store m k local s same =
     let f : Fields = fields_of (word_at store s) in
-    let n : ℕ = first (cycle_checks fence reading store m local s) in
-    let e : n ≡ first (cycle_checks fence reading store k local s) =
-    ap (λ (size : ℕ). first ((1, sizes_wrong (length store) size (length local)) ∷ next_word_checks fence reading store size s)) same.size in
-    subst (λ (z : ℕ). AlikeIn fence (decided reading n (stops f) f m local s) (decided reading z (stops f) f k local s)) e
-    (decided_alike fence reading f local s n (stops f) m k (past_11 fence reading store m local s) same)
+    let found : Option Refusal = first (cycle_checks fence reading store m local s) in
+    let e : found ≡ first (cycle_checks fence reading store k local s) =
+    ap (λ (size : ℕ). first ((R.Size, sizes_wrong (length store) size (length local)) ∷ next_word_checks fence reading store size s)) same.size in
+    subst (λ (z : Option Refusal). AlikeIn fence (decided reading found (stops f) f m local s) (decided reading z (stops f) f k local s)) e
+    (decided_alike fence reading f local s found (stops f) m k (past_11 fence reading store m local s) same)
 
 pub changes_inside : ChangesInside
 unfolding cycle_in

@@ -1,15 +1,18 @@
 -- The seven codes: where none is used the readings are one, and each tells them apart. Assumes nothing.
-use Prim.Native.Nat.{ℕ, zero, suc, ◌+◌, ◌*◌}
+use Prim.Native.Nat.{ℕ, ◌+◌, ◌*◌}
 use mathlib.Core.Path.{◌≡◌, refl, ap, ◌∙◌}
 use mathlib.Core.List.{List, [], ◌∷◌, ◌++◌}
 use mathlib.Core.Bool.{Bool, true, false, cond, not, ◌&&◌}
 use native.Mathlib.Omega.{arith}
 use lib.Count.{ones}
-use lib.Dec.{eqb, leb}
+use lib.Dec.{leb}
 use lib.ListN.{length}
 use Rattle.digits.specs.Bits.{one, with_bit}
-use Rattle.digits.specs.Refusal.{first}
+use Rattle.std.specs.Prelude.{Option, Some, None, is_some, unwrap_or}
+use Rattle.digits.specs.Refusal.{first, refusal_number}
 use Rattle.digits.specs.Sizes.{sizes_wrong}
+use Rattle.digits.specs.declared.refusal.Refusal.{Refusal}
+use Rattle.digits.specs.declared.refusal.Refusal.TheVariants as R
 use Rattle.word.specs.Layout.{line_of, fields_of}
 use Rattle.word.specs.Parity.{is_return}
 use Rattle.word.specs.Word.{fault_checks}
@@ -24,7 +27,7 @@ use Rattle.machine.specs.Sources.{entered, sum_in}
 use Rattle.machine.specs.Branch.{tested_of, w_of, next_of}
 use Rattle.storage.specs.Storage.{access_of, outside}
 use Rattle.machine.specs.Status.{into, saves, status_of}
-use Rattle.machine.specs.Cycle.{outcome, stops, access_in, cycle_checks, word_at, ran_of, decided, cycle_in}
+use Rattle.machine.specs.Cycle.{stops, access_in, cycle_checks, word_at, ran_of, decided, cycle_in}
 use Rattle.machine.specs.Seven.{CycleAlike, TellApart}
 use Rattle.machine.specs.declared.State.{State}
 use Rattle.machine.specs.declared.Cycled.{Cycled}
@@ -51,10 +54,10 @@ module _ (f : Fields) (none : uses_one f ≡ false) where
         let z : Sum = sum_in f e in
         rw (status_same z (into 6 f.cd z.result e.s), next_same e)
 
-    decided_same : (n : ℕ) (stop : Bool) → decided Basic n stop f main local s ≡ decided Compatibility n stop f main local s
-    decided_same (suc n) stop = λ i. outcome (Refused s (suc n) (cond (eqb (suc n) 10) (unmodelled_alike f none i) 0)) main local
-    decided_same zero true = refl
-    decided_same zero false = ran_same
+    decided_same : (k : Option Refusal) (stop : Bool) → decided Basic k stop f main local s ≡ decided Compatibility k stop f main local s
+    decided_same (Some r) stop = refl
+    decided_same None true = refl
+    decided_same None false = ran_same
 
 pub cycle_alike : CycleAlike
 unfolding cycle_in
@@ -65,9 +68,9 @@ cycle_alike fence store main local s none =
     let ten : unmodelled_of Basic f ≡ unmodelled_of Compatibility f = unmodelled_alike f uses_none_lem in
     let checks : first (cycle_checks fence Basic store main local s) ≡ first (cycle_checks fence Compatibility store main local s) =
     λ i. first
-    ((1, sizes_wrong (length store) (length main) (length local)) ∷ (2, leb (length store) s.wx)
-    ∷ (fault_checks w s.wx (line_of w) ++ ((10, not (stops f) && not (eqb (ten i) 0)) ∷ (11, not (stops f) && outside fence (length main) (access_in f s)) ∷ []))) in
-    ap (λ (n : ℕ). decided Basic n (stops f) f main local s) checks
+    ((R.Size, sizes_wrong (length store) (length main) (length local)) ∷ (R.NoWord, leb (length store) s.wx)
+    ∷ (fault_checks w s.wx (line_of w) ++ ((R.NotModelled (unwrap_or (ten i) 0), not (stops f) && is_some (ten i)) ∷ (R.MainAddress, not (stops f) && outside fence (length main) (access_in f s)) ∷ []))) in
+    ap (λ (k : Option Refusal). decided Basic k (stops f) f main local s) checks
     ∙ decided_same f uses_none_lem main local s (first (cycle_checks fence Compatibility store main local s)) (stops f)
 
 -- ---- each of the seven
@@ -76,7 +79,7 @@ cycle_alike fence store main local s none =
 abbrev leads : Cycled → ℕ
 leads (Ran t) = t.wx
 leads (Stopped t) = 4096
-leads (Refused t number field) = 4096 + number
+leads (Refused t r) = 4096 + refusal_number r
 
 differ : (x y : Cycled) (m n : ℕ) → leads x ≡ m → leads y ≡ n → (m ≡ n → ⊥) → x ≡ y → ⊥
 differ x y m n hx hy other e = other (omega (arith, hx, hy, ap leads e))

@@ -1,9 +1,11 @@
 -- No branch, no source and no check reads the two lamps. Assumes nothing.
-use Prim.Native.Nat.{ℕ, zero, suc}
+use Prim.Native.Nat.{ℕ}
 use mathlib.Core.Path.{◌≡◌, refl, ap, ◌∙◌}
 use mathlib.Core.List.{List}
 use mathlib.Core.Bool.{Bool, true, false}
+use Rattle.std.specs.Prelude.{Option, Some, None}
 use Rattle.digits.specs.Refusal.{first}
+use Rattle.digits.specs.declared.refusal.Refusal.{Refusal}
 use Rattle.word.specs.Layout.{fields_of}
 use Rattle.word.specs.declared.Fields.{Fields}
 use Rattle.codes.specs.declared.Reading.{Reading}
@@ -23,10 +25,10 @@ module _ (reading : Reading) (carry invalid : Bool) (f : Fields) (main local : L
   unfolding ran_of entered sum_in next_of access_of
   ran_unread = refl
 
-  decided_unread : (n : ℕ) (stop : Bool) → outcome_with carry invalid (decided reading n stop f main local s) ≡ decided reading n stop f main local (with_lamps carry invalid s)
-  decided_unread (suc n) stop = refl
-  decided_unread zero true = refl
-  decided_unread zero false = ran_unread
+  decided_unread : (k : Option Refusal) (stop : Bool) → outcome_with carry invalid (decided reading k stop f main local s) ≡ decided reading k stop f main local (with_lamps carry invalid s)
+  decided_unread (Some r) stop = refl
+  decided_unread None true = refl
+  decided_unread None false = ran_unread
 
 pub cycle_unread : CycleUnread
 unfolding cycle_in entered access_of

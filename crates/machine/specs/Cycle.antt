@@ -1,12 +1,13 @@
 -- "One cycle", in the paper's order. Assumes nothing.
-use Rattle.std.specs.Prelude.{ℕ, zero, suc, List, [], ◌∷◌, ◌++◌, Bool, true, false, cond, not, ◌&&◌, eqb, leb, get_or, length}
+use Rattle.std.specs.Prelude.{ℕ, List, [], ◌∷◌, ◌++◌, Bool, true, false, cond, not, ◌&&◌, eqb, leb, get_or, length, Option, Some, None, is_some, unwrap_or}
+use Rattle.std.specs.Result.{result_ok}
 use Rattle.digits.specs.Refusal.{Check, first}
 use Rattle.digits.specs.Sizes.{sizes_wrong}
+use Rattle.digits.specs.declared.refusal.Refusal.{Refusal}
+use Rattle.digits.specs.declared.refusal.Refusal.TheVariants as R
 use Rattle.word.specs.Layout.{line_of, fields_of}
 use Rattle.word.specs.Parity.{is_return}
 use Rattle.word.specs.Word.{fault_checks, taken_apart}
-use Rattle.word.specs.declared.Apart.{Apart}
-use Rattle.word.specs.declared.Apart.TheVariants as A
 use Rattle.word.specs.declared.Fields.{Fields}
 use Rattle.codes.specs.Modelled.{unmodelled_of}
 use Rattle.codes.specs.declared.Reading.{Reading}
@@ -15,14 +16,13 @@ use Rattle.storage.specs.declared.Access.{Access}
 use Rattle.storage.specs.declared.Fence.{Fence}
 use Rattle.storage.specs.declared.Seen.{Seen}
 use Rattle.adder.specs.declared.Sum.{Sum}
+use Rattle.adder.specs.declared.Work.{Work}
 use Rattle.machine.specs.Sources.{entered, sum_in, work_in}
 use Rattle.machine.specs.Branch.{next_of}
 use Rattle.machine.specs.Status.{into, status_of}
 use Rattle.machine.specs.declared.State.{State}
 use Rattle.machine.specs.declared.Cycled.{Cycled}
 use Rattle.machine.specs.declared.Cycled.TheVariants.{Ran, Stopped, Refused}
-use Rattle.machine.specs.declared.NextSum.{NextSum}
-use Rattle.machine.specs.declared.NextSum.TheVariants.{Sums, Nothing}
 
 -- an answer, and both storages as they then are
 pub record Outcome (A : Type 0) : Type 0 where
@@ -58,26 +58,26 @@ seen_of s =
 abbrev pub access_in : Fields → State → Access
 access_in f s = access_of f (seen_of (entered f s))
 
--- "Stop is decided after 9 and before 10"
-abbrev pub step_checks : Fence → Reading → Fields → ℕ → State → List Check
+-- "Stop is decided after 9 and before 10": 10, with the place of its field, and 11
+abbrev pub step_checks : Fence → Reading → Fields → ℕ → State → List (Check Refusal)
 step_checks fence reading f main s =
-    (10, not (stops f) && not (eqb (unmodelled_of reading f) 0)) ∷
-    (11, not (stops f) && outside fence main (access_in f s)) ∷
+    (R.NotModelled (unwrap_or (unmodelled_of reading f) 0), not (stops f) && is_some (unmodelled_of reading f)) ∷
+    (R.MainAddress, not (stops f) && outside fence main (access_in f s)) ∷
     []
 
 abbrev pub word_at : List ℕ → State → ℕ
 word_at store s = get_or store s.wx 0
 
 -- the refusals of a word in the order checked: 2, 3 to 9, 10, 11. The reading goes with the store, the fence with the board
-abbrev pub next_word_checks : Fence → Reading → List ℕ → ℕ → State → List Check
+abbrev pub next_word_checks : Fence → Reading → List ℕ → ℕ → State → List (Check Refusal)
 next_word_checks fence reading store main s =
-    (2, leb (length store) s.wx) ∷
+    (R.NoWord, leb (length store) s.wx) ∷
     (fault_checks (word_at store s) s.wx (line_of (word_at store s)) ++ step_checks fence reading (fields_of (word_at store s)) main s)
 
 -- and of a cycle: 1, then those
-abbrev pub cycle_checks : Fence → Reading → List ℕ → List ℕ → List ℕ → State → List Check
+abbrev pub cycle_checks : Fence → Reading → List ℕ → List ℕ → List ℕ → State → List (Check Refusal)
 cycle_checks fence reading store main local s =
-    (1, sizes_wrong (length store) (length main) (length local)) ∷ next_word_checks fence reading store (length main) s
+    (R.Size, sizes_wrong (length store) (length main) (length local)) ∷ next_word_checks fence reading store (length main) s
 
 -- "e. The result goes to the CD register; then CS changes S; then S3 takes the new AC if CC saves it. Last, WX."
 -- s has the arriving byte in R, z is the adder's answer, a is what storage does
@@ -122,15 +122,11 @@ ran_of reading f main local s =
     let a : Access = access_of f (seen_of e) in
     outcome (Ran (after reading f (sum_in f e) a (fetched_of main local a) e)) (main_after main a e.r) (local_after local a e.r)
 
--- 10 comes with its field, every other number with 0
-abbrev pub field_of : Reading → ℕ → Fields → ℕ
-field_of reading number f = cond (eqb number 10) (unmodelled_of reading f) 0
-
 -- "A cycle answers ran, stopped or refused, each with its state." Stop and "refusals change nothing"
-abbrev pub decided : Reading → ℕ → Bool → Fields → List ℕ → List ℕ → State → Outcome Cycled
-decided reading (suc number) stop f main local s = outcome (Refused s (suc number) (field_of reading (suc number) f)) main local
-decided reading zero true f main local s = outcome (Stopped s) main local
-decided reading zero false f main local s = ran_of reading f main local s
+abbrev pub decided : Reading → Option Refusal → Bool → Fields → List ℕ → List ℕ → State → Outcome Cycled
+decided reading (Some refusal) stop f main local s = outcome (Refused s refusal) main local
+decided reading None true f main local s = outcome (Stopped s) main local
+decided reading None false f main local s = ran_of reading f main local s
 
 -- from the fields on
 abbrev pub step_of : Fence → Reading → Fields → List ℕ → List ℕ → State → Outcome Cycled
@@ -146,20 +142,20 @@ cycle_in fence reading store main local s =
 abbrev pub cycle_of : Reading → List ℕ → List ℕ → List ℕ → State → Outcome Cycled
 cycle_of reading store main local s = cycle_in whole reading store main local s
 
--- the paper's number of each answer, 0 where it does not refuse
-abbrev pub refusal_number : Cycled → ℕ
-refusal_number (Ran t) = 0
-refusal_number (Stopped t) = 0
-refusal_number (Refused t number field) = number
+-- the refusal of each answer, none where it does not refuse
+abbrev pub refusal_in : Cycled → Option Refusal
+refusal_in (Ran t) = None
+refusal_in (Stopped t) = None
+refusal_in (Refused t refusal) = Some refusal
 
 -- what the adder does in a word that does not stop: the byte that is arriving is in R
-abbrev pub sum_by : Fields → State → NextSum
-sum_by f s = cond (stops f) Nothing (Sums (work_in f (entered f s)))
+abbrev pub sum_by : Fields → State → Option Work
+sum_by f s = cond (stops f) None (Some (work_in f (entered f s)))
 
 -- and for the word that would run next, where it stands in the store and is not refused by 3 to 9
-abbrev pub next_by : Apart → State → NextSum
-next_by (A.Refused number) s = Nothing
-next_by (A.Fields f) s = sum_by f s
+abbrev pub next_by : Option Fields → State → Option Work
+next_by None s = None
+next_by (Some f) s = sum_by f s
 
-unfoldable pub next_sum_of : List ℕ → State → NextSum
-next_sum_of store s = cond (leb (length store) s.wx) Nothing (next_by (taken_apart (word_at store s) s.wx) s)
+unfoldable pub next_sum_of : List ℕ → State → Option Work
+next_sum_of store s = cond (leb (length store) s.wx) None (next_by (result_ok (taken_apart (word_at store s) s.wx)) s)

@@ -42,7 +42,7 @@ with_lamps carry invalid s =
 abbrev pub answer_with : Bool → Bool → Cycled → Cycled
 answer_with carry invalid (Ran t) = Ran t
 answer_with carry invalid (Stopped t) = Stopped (with_lamps carry invalid t)
-answer_with carry invalid (Refused t number field) = Refused (with_lamps carry invalid t) number field
+answer_with carry invalid (Refused t refusal) = Refused (with_lamps carry invalid t) refusal
 
 -- what a cycle does is the same whatever these two lamps show before it
 abbrev pub CycleUnread : Type 0

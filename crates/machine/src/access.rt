@@ -7,7 +7,7 @@ use crate::State;
 use storage::{Access, Seen};
 use word::Fields;
 
-// What storage sees of a state.
+// What storage sees of a state. A `From` would be one more public function, for one call.
 fn seen(s: State) -> Seen
     ensures { result ≡ seen_of s }
 {
@@ -33,6 +33,13 @@ pub(crate) fn asked(f: Fields, s: State) -> Access
     storage::access_of(f, seen(s))
 }
 
+// Where M and N stand in main storage.
+fn at(a: Access) -> usize
+    ensures { result ≡ main_address a }
+{
+    a.m as usize * 256 + a.n as usize
+}
+
 // The byte that a fetch finds, 0 where none is made.
 pub(crate) fn fetched(main: &[u8], local: &[u8], a: Access) -> u8
     requires { (length local.now ≡ 256) × (a.fetches ≡ true → a.local ≡ false → main_address a < length main.now) }
@@ -41,12 +48,10 @@ pub(crate) fn fetched(main: &[u8], local: &[u8], a: Access) -> u8
     if !a.fetches {
         return 0;
     }
-    let n = a.n as usize;
     if a.local {
-        return local[n];
+        return local[a.n as usize];
     }
-    let at = a.m as usize * 256 + n;
-    main[at]
+    main[at(a)]
 }
 
 // Puts R where a put is made.
@@ -57,11 +62,9 @@ pub(crate) fn put(main: &mut [u8], local: &mut [u8], a: Access, r: u8)
     if !a.puts {
         return;
     }
-    let n = a.n as usize;
     if a.local {
-        local[n] = r;
+        local[a.n as usize] = r;
         return;
     }
-    let at = a.m as usize * 256 + n;
-    main[at] = r;
+    main[at(a)] = r;
 }

@@ -7,7 +7,7 @@ use crate::State;
 use codes::{Reading, Tested};
 use word::Fields;
 
-// What a branch may test of a state.
+// What a branch may test of a state. A `From` would be one more public function, for one call.
 fn tested(s: State) -> Tested
     ensures { result ≡ tested_of s }
 {
@@ -43,6 +43,7 @@ pub(crate) fn is_return(f: Fields) -> bool
 }
 
 // The address of the next word: FWX, or what W, CN, CH and CL give.
+#[tactic(auto, unfolding(crate::specs::Branch::next_of))]
 pub(crate) fn next_of(reading: Reading, f: Fields, s: State) -> u16
     requires { f.cn < 64 }
     ensures { result ≡ next_of reading f s }

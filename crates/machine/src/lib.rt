@@ -5,15 +5,15 @@ mod access;
 mod branch;
 mod sources;
 mod status;
-mod tables;
 
 ghost use Rattle.std.specs.Prelude.{◌≡◌, ◌<◌, length};
 ghost use Rattle.machine.specs.Cycle.{outcome, after, step_of, cycle_in, cycle_of, sum_by, next_sum_of};
 
 use adder::{Sum, Work};
 use codes::Reading;
+use digits::Refusal;
 use storage::{Access, Fence};
-use word::{Apart, Fields};
+use word::Fields;
 
 // What the lamps show. With nothing arriving the arriving byte means nothing. FWX is the WX that a trap broke into, and a return is owed
 // until a return word has run.
@@ -46,19 +46,13 @@ pub struct State {
     pub owed: bool,
 }
 
-// A refusal has its number and, where that is 10, the field's place in the word.
+// What a cycle answers, with the state after it. Three cases that hold the state, so no Result: a rule of the project
+// (docs/DECISIONS.md, "Language forms by place").
 #[derive(Clone, Copy)]
 pub enum Cycled {
     Ran(State),
     Stopped(State),
-    Refused(State, u8, u8),
-}
-
-// What the adder does in a word, or nothing where no sum would be made.
-#[derive(Clone, Copy)]
-pub enum NextSum {
-    Sums(Work),
-    Nothing,
+    Refused(State, Refusal),
 }
 
 // e. The state after the word. `s` has the arriving byte in R.
@@ -97,6 +91,9 @@ fn after(reading: Reading, f: Fields, z: Sum, a: Access, fetched: u8, s: State) 
 
 // What the fields of a word do: decide everything, then make at most one store. One expression, since a return from its middle
 // costs a cycle a copy of its answer.
+// That CN and CK are in their widths and local storage has its 256 bytes is asked by `requires`, here and below it: `word::Fields` may
+// hold any values, 20 being given for some, and a struct round it, or round the storage, would stand between each part and its name.
+#[tactic(auto, unfolding(crate::specs::Cycle::ran_of))]
 fn step(
     fence: Fence,
     reading: Reading,
@@ -108,16 +105,15 @@ fn step(
     requires { (f.cn < 64) × ((f.ck < 16) × (length local.old ≡ 256)) }
     ensures { outcome result main.new local.new ≡ step_of fence reading f main.old local.old s }
 {
-    let field = codes::unmodelled(reading, f);
     let entered = sources::enter(f, s);
     let z = sources::sum_in(f, entered);
     let access = access::asked(f, entered);
     if f.cf == 4 {
         Cycled::Stopped(s)
-    } else if field != 0 {
-        Cycled::Refused(s, 10, field)
+    } else if let Some(place) = codes::unmodelled(reading, f) {
+        Cycled::Refused(s, Refusal::NotModelled(place))
     } else if storage::is_outside(fence, main.len(), access) {
-        Cycled::Refused(s, 11, 0)
+        Cycled::Refused(s, Refusal::MainAddress)
     } else {
         let fetched = access::fetched(main, local, access);
         access::put(main, local, access, entered.r);
@@ -125,7 +121,9 @@ fn step(
     }
 }
 
-// One cycle in a fence, of the store's word at WX under a reading.
+// One cycle in a fence, of the store's word at WX under a reading. Main and local storage stay two arguments, here, in `cycle` and in
+// `step`: what a public function takes may not change.
+#[tactic(auto, using(crate::proofs::Cycles::on_1, crate::proofs::Cycles::on_2, crate::proofs::Cycles::on_fault))]
 pub fn cycle_in(
     fence: Fence,
     reading: Reading,
@@ -137,16 +135,13 @@ pub fn cycle_in(
     ensures { outcome result main.new local.new ≡ cycle_in fence reading store.now main.old local.old state }
 {
     if digits::sizes_wrong(store.len(), main.len(), local.len()) {
-        return Cycled::Refused(state, 1, 0);
+        return Cycled::Refused(state, Refusal::Size);
     }
-    let at = state.wx as usize;
-    if store.len() <= at {
-        return Cycled::Refused(state, 2, 0);
-    }
-    let word = store[at];
-    let number = word::fault(word, state.wx as u32);
-    if number != 0 {
-        return Cycled::Refused(state, number, 0);
+    let Some(&word) = store.get(state.wx as usize) else {
+        return Cycled::Refused(state, Refusal::NoWord);
+    };
+    if let Some(refusal) = word::fault(word, state.wx as u32) {
+        return Cycled::Refused(state, refusal);
     }
     step(fence, reading, word::fields_of(word), main, local, state)
 }
@@ -161,35 +156,27 @@ pub fn cycle(
 ) -> Cycled
     ensures { outcome result main.new local.new ≡ cycle_of reading store.now main.old local.old state }
 {
-    let whole = Fence {
-        start: 0,
-        end: 65536,
-    };
-    cycle_in(whole, reading, store, main, local, state)
+    cycle_in(Fence::whole(), reading, store, main, local, state)
 }
 
-// The work of the word that would run next: what is chosen, gated and summed, step by step.
-pub fn next_sum(store: &[u64], state: State) -> NextSum
+// The work of the word that would run next: what is chosen, gated and summed, step by step; none where no sum would be made.
+#[tactic(auto, unfolding(crate::specs::Cycle::next_sum_of))]
+pub fn next_sum(store: &[u64], state: State) -> Option<Work>
     ensures { result ≡ next_sum_of store.now state }
 {
-    let at = state.wx as usize;
-    if store.len() <= at {
-        return NextSum::Nothing;
-    }
-    match word::take_apart(store[at], state.wx as u32) {
-        Apart::Refused(_) => NextSum::Nothing,
-        Apart::Fields(f) => sum_of(f, state),
-    }
+    let word = *store.get(state.wx as usize)?;
+    let f = word::take_apart(word, state.wx as u32).ok()?;
+    sum_of(f, state)
 }
 
 // The work of a word that has its fields and does not stop.
-fn sum_of(f: Fields, s: State) -> NextSum
+fn sum_of(f: Fields, s: State) -> Option<Work>
     requires { f.ck < 16 }
     ensures { result ≡ sum_by f s }
 {
     if f.cf == 4 {
-        return NextSum::Nothing;
+        return None;
     }
     let entered = sources::enter(f, s);
-    NextSum::Sums(sources::work_in(f, entered))
+    Some(sources::work_in(f, entered))
 }

@@ -8,6 +8,7 @@ use digits::bit;
 use word::Fields;
 
 // a. An arriving byte enters R, unless CM is Store.
+#[tactic(auto, unfolding(crate::specs::Sources::entered))]
 pub(crate) fn enter(f: Fields, s: State) -> State
     ensures { result ≡ entered f s }
 {
@@ -17,7 +18,7 @@ pub(crate) fn enter(f: Fields, s: State) -> State
         s.r
     };
     State {
-        r: r,
+        r,
         arriving: false,
         arriving_byte: 0,
         ..s
@@ -31,12 +32,10 @@ fn a_source(f: Fields, s: State) -> u8
     if f.cl == 2 {
         return 0;
     }
-    crate::tables::byte_at(
-        [
-            0, 0, 0, 0, s.s, s.h, 0, s.r, s.d, s.l, s.g, s.t, s.v, s.u, s.j, s.i,
-        ],
-        f.ca,
-    )
+    let sources = [
+        0, 0, 0, 0, s.s, s.h, 0, s.r, s.d, s.l, s.g, s.t, s.v, s.u, s.j, s.i,
+    ];
+    sources.get(f.ca as usize).copied().unwrap_or(0)
 }
 
 // The byte that CB names.
@@ -45,11 +44,8 @@ fn b_source(f: Fields, s: State) -> u8
     ensures { result ≡ b_source f s }
 {
     let k_twice = f.ck * 16 + f.ck;
-    if f.cb < 4 {
-        [s.r, s.l, s.d, k_twice][f.cb as usize]
-    } else {
-        0
-    }
+    let sources = [s.r, s.l, s.d, k_twice];
+    sources.get(f.cb as usize).copied().unwrap_or(0)
 }
 
 // What CF, CG, CV and CC ask, and the bits of S that they may read.
@@ -67,6 +63,7 @@ fn controls(f: Fields, s: State) -> Controls
 }
 
 // c. The adder's whole answer.
+#[tactic(auto, unfolding(crate::specs::Sources::sum_in))]
 pub(crate) fn sum_in(f: Fields, s: State) -> Sum
     requires { f.ck < 16 }
     ensures { result ≡ sum_in f s }
@@ -75,6 +72,7 @@ pub(crate) fn sum_in(f: Fields, s: State) -> Sum
 }
 
 // What the adder does on the way to its answer.
+#[tactic(auto, unfolding(crate::specs::Sources::work_in))]
 pub(crate) fn work_in(f: Fields, s: State) -> Work
     requires { f.ck < 16 }
     ensures { result ≡ work_in f s }

@@ -15,11 +15,12 @@ pub(crate) fn into(code: u8, cd: u8, res: u8, old: u8) -> u8
 }
 
 // S after CS, and then after CC.
+#[tactic(auto, unfolding(crate::specs::Status::status_of))]
 pub(crate) fn status(reading: Reading, f: Fields, z: Sum, s: u8) -> u8
     ensures { result ≡ status_of reading f z s }
 {
     let by_cs = codes::changed(reading, f.cs, z.result, s);
-    if (4 <= f.cc) & (f.cc <= 6) {
+    if matches!(f.cc, 4..=6) {
         return with_bit(by_cs, 3, z.ac);
     }
     by_cs

@@ -1,9 +1,9 @@
 -- "Numbers to check by. Starred ones form the proved table." Assumes nothing.
-use Rattle.std.specs.Prelude.{ℕ, ◌≡◌, Bool, true, false, List, [], ◌∷◌}
+use Rattle.std.specs.Prelude.{ℕ, ◌≡◌, Bool, true, false, List, [], ◌∷◌, Result, Ok, Err}
+use Rattle.digits.specs.Refusal.{refusal_number}
+use Rattle.digits.specs.declared.refusal.Refusal.{Refusal}
 use Rattle.word.specs.Word.{packed, taken_apart}
 use Rattle.word.specs.declared.Fields.{Fields}
-use Rattle.word.specs.declared.Apart.TheVariants as A
-use Rattle.word.specs.declared.Packed.TheVariants as P
 use Rattle.adder.specs.Adder.{sum_of}
 use Rattle.adder.specs.declared.Controls.{Controls}
 
@@ -27,10 +27,15 @@ all cv cc s0 = record { cf = 3; cg = 3; cv = cv; cc = cc; s0 = s0; s3 = false }
 abbrev alone : ℕ → Controls
 alone cf = record { cf = cf; cg = 0; cv = 0; cc = 0; s0 = false; s3 = false }
 
+-- a refusal by this number
+abbrev RefusedBy : ℕ → Result Fields Refusal → Type 0
+RefusedBy number (Ok f) = ⊥
+RefusedBy number (Err r) = refusal_number r ≡ number
+
 -- by the definitions that the contracts of `pack`, `take_apart` and `add` cite
 abbrev pub Holds : Row → Type 0
-Holds (packs f address word) = packed f address ≡ P.Word word
-Holds (refused word address number) = taken_apart word address ≡ A.Refused number
+Holds (packs f address word) = packed f address ≡ Ok word
+Holds (refused word address number) = RefusedBy number (taken_apart word address)
 Holds (adds a b c result ac) = ((sum_of a b c).result ≡ result) × ((sum_of a b c).ac ≡ ac)
 Holds (gates cf a result) = (sum_of a 0 (alone cf)).result ≡ result
 Holds (carries a b c one ac) = ((sum_of a b c).one_bc ≡ one) × ((sum_of a b c).ac ≡ ac)

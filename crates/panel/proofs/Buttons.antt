@@ -30,7 +30,7 @@ use Rattle.run.proofs.Divided.{divided, once, one_cycle}
 use Rattle.run.proofs.Quiet.{quiet_keeps}
 use Rattle.channels.specs.Channels.{record_length, saved, loaded}
 use Rattle.channels.proofs.Trips.{state_back}
-use Rattle.panel.specs.Answers.{RAN, REFUSED, coded, counted, Called, called, short, answer_cycle, cycled_by, call_by, cycle_call, ending_code, record_after, ran_by, run_call}
+use Rattle.panel.specs.Answers.{RAN, counted, refused, Called, called, short, answer_cycle, cycled_by, call_by, cycle_call, ending_code, record_after, ran_by, run_call}
 use Rattle.panel.proofs.Calls.{run_short, run_else, by_record}
 use Rattle.panel.proofs.Promises.{Untouched, run_keeps}
 use Rattle.panel.specs.Buttons.{code_in, cycles_in, DividedCalls, CallsDivide, press_cycle, press_run, presses, ran_in, as_ending, Shows, SameMachine, CallsQuiet}
@@ -40,7 +40,7 @@ use Rattle.panel.specs.Buttons.{code_in, cycles_in, DividedCalls, CallsDivide, p
 code_small : (e : Ending) → Small e → ending_code e < 2 ^ 32
 code_small E.Spent h = omega arith
 code_small E.Stopped h = omega arith
-code_small (E.Refused number field) (n, f) = omega arith
+code_small (E.Refused r) (n, f) = omega arith
 
 cycles_in_lem : (code n : ℕ) → code < 2 ^ 32 → cycles_in (counted code n) ≡ n
 cycles_in_lem code n h = omega arith
@@ -185,7 +185,7 @@ shown c = called (counted (as_ending c.number) (one (eqb c.number RAN) + 0)) c.m
 as_run : (reading : Reading) (store : List ℕ) (r : Cycled) (main local state : List ℕ) → ran_by (once (cycle_of reading store) (outcome r main local)) state ≡ shown (cycled_by (outcome r main local) state)
 as_run reading store (C.Ran t) main local state = ap (λ (o : Outcome Finished). ran_by o state) (spent (cycle_of reading store) main local t 1)
 as_run reading store (C.Stopped t) main local state = refl
-as_run reading store (C.Refused t number field) main local state = rw (ne_eqb (coded REFUSED number field) RAN (λ z. omega arith))
+as_run reading store (C.Refused t r) main local state = rw (ne_eqb (refused r) RAN (λ z. omega arith))
 
 press_is_run : (reading : Reading) (store main local state : List ℕ) → run_call reading store main local state 1 ≡ shown (cycle_call reading store main local state)
 unfolding run_call call_by
@@ -206,9 +206,9 @@ module _ (reading : Reading) (store main local state : List ℕ) where
   answer_low : (r : Cycled) → (cycle_of reading store main local (loaded state)).answer ≡ r → Low (answer_cycle r state).number
   answer_low (C.Ran t) e = omega arith
   answer_low (C.Stopped t) e = omega arith
-  answer_low (C.Refused t number field) e =
-      let (n, f) = refusal_small whole reading store main local (loaded state) t number field e in
-      rw (ne_eqb (coded REFUSED number field) RAN (λ z. omega arith)) (omega arith)
+  answer_low (C.Refused t r) e =
+      let (n, f) = refusal_small whole reading store main local (loaded state) t r e in
+      rw (ne_eqb (refused r) RAN (λ z. omega arith)) (omega arith)
 
   press_low : Low (cycle_call reading store main local state).number
   unfolding call_by

@@ -10,50 +10,50 @@ use lib.IntN.{ℤ}
 use lib.ListN.{length, set}
 use mir.Syntax.{w64}
 use mir.Val.{to_z, of_z}
+use Rattle.std.specs.Prelude.{Option, Result, Ok, Err}
+use Rattle.digits.specs.Refusal.{refusal_number}
+use Rattle.digits.specs.declared.refusal.Refusal.{Refusal}
+use Rattle.digits.specs.declared.refusal.Refusal.TheVariants as R
 use Rattle.digits.proofs.Truth.{neither}
+use Rattle.adder.specs.declared.Work.{Work}
 use Rattle.word.specs.Word.{taken_apart, packed}
 use Rattle.word.specs.declared.Fields.{Fields}
-use Rattle.word.specs.declared.Apart.{Apart}
-use Rattle.word.specs.declared.Packed.{Packed}
 use Rattle.codes.specs.declared.Reading.{Reading}
 use Rattle.machine.specs.Cycle.{Outcome, outcome, next_sum_of}
 use Rattle.machine.specs.declared.State.{State}
 use Rattle.trap.specs.Trap.{trap_of}
-use Rattle.trap.specs.declared.Trapped.{Trapped}
 use Rattle.machine.specs.declared.Cycled.{Cycled}
-use Rattle.machine.specs.declared.NextSum.{NextSum}
 use Rattle.run.specs.Run.{run_of}
 use Rattle.run.specs.declared.Finished.{Finished}
 use Rattle.decimal.specs.declared.Added.{Added}
 use Rattle.digits.specs.Lent.{over}
 use Rattle.signed.specs.Signed.{read_signed}
-use Rattle.signed.specs.declared.ReadOut.TheVariants as R
 use Rattle.signed.proofs.Trips.{read_whole}
 use Rattle.channels.specs.Channels.{record_length, loaded}
 use Rattle.panel.specs.Fields.{fields_in}
-use Rattle.panel.specs.Answers.{REFUSED, coded, counted, Answered, answered, answer_apart, take_apart_call, answer_packed, pack_call, Called, called, short, answer_cycle, cycled_by, call_by, ending_code, record_after, ran_by, run_call, answer_trap, trap_call, answer_next, next_sum_call, added_code, added_by, read_signed_call}
+use Rattle.panel.specs.Answers.{counted, refused, Answered, answered, answer_apart, take_apart_call, answer_packed, pack_call, Called, called, short, answer_cycle, cycled_by, call_by, ending_code, record_after, ran_by, run_call, answer_trap, trap_call, answer_next, next_sum_call, added_code, added_by, read_signed_call}
 
 -- ---- a word
 
 module _ (word address : ℕ) (fields : List ℕ) where
-  pub apart_short : length fields < 18 → answered 19 fields ≡ take_apart_call word address fields
+  pub apart_short : (n : ℕ) → n ≡ 19 → length fields < 18 → answered n fields ≡ take_apart_call word address fields
   unfolding take_apart_call
-  apart_short h = rw (lt-ltb (length fields) 18 h)
+  apart_short n e h = rw (lt-ltb (length fields) 18 h, e)
 
-  pub apart_is : 18 ≤ length fields → (a x : Apart) → a ≡ taken_apart word address → a ≡ x → answer_apart x fields ≡ take_apart_call word address fields
+  pub apart_is : 18 ≤ length fields → (a x : Result Fields Refusal) → a ≡ taken_apart word address → a ≡ x → answer_apart x fields ≡ take_apart_call word address fields
   unfolding take_apart_call
-  apart_is h a x is e = ap (λ (y : Apart). answer_apart y fields) (sym e ∙ is) ∙ rw (le-ltb (length fields) 18 h)
+  apart_is h a x is e = ap (λ (y : Result Fields Refusal). answer_apart y fields) (sym e ∙ is) ∙ rw (le-ltb (length fields) 18 h)
 
 module _ (fields : List ℕ) (address : ℕ) (word : List ℕ) where
-  pub pack_short : ltb (length fields) 18 || ltb (length word) 1 ≡ true → answered 19 word ≡ pack_call fields address word
+  pub pack_short : (n : ℕ) → n ≡ 19 → ltb (length fields) 18 || ltb (length word) 1 ≡ true → answered n word ≡ pack_call fields address word
   unfolding pack_call
-  pack_short h = rw h
+  pack_short n e h = rw (h, e)
 
-  pub pack_is : ltb (length fields) 18 || ltb (length word) 1 ≡ false → (f : Fields) (p x : Packed) → f ≡ fields_in fields → p ≡ packed f address → p ≡ x
+  pub pack_is : ltb (length fields) 18 || ltb (length word) 1 ≡ false → (f : Fields) (p x : Result ℕ Refusal) → f ≡ fields_in fields → p ≡ packed f address → p ≡ x
       → answer_packed x word ≡ pack_call fields address word
   unfolding pack_call
   pack_is h f p x in-fields is e =
-      ap (λ (y : Packed). answer_packed y word) (sym e ∙ is ∙ ap (λ (g : Fields). packed g address) in-fields) ∙ rw h
+      ap (λ (y : Result ℕ Refusal). answer_packed y word) (sym e ∙ is ∙ ap (λ (g : Fields). packed g address) in-fields) ∙ rw h
 
 -- the rooms that are lent, past 19
 pub both_lent : (m n k l : ℕ) → ltb m k || ltb n l ≡ false → (k ≤ m) × (l ≤ n)
@@ -66,11 +66,8 @@ front (x ∷ l) w h = refl
 
 -- ---- a cycle, a turn
 
-pub tell_is : (state : List ℕ) (a x : Cycled) (y : Answered ℕ) → a ≡ x → y ≡ answer_cycle x state → y ≡ answer_cycle a state
-tell_is state a x y e p = p ∙ ap (λ (z : Cycled). answer_cycle z state) (sym e)
-
 module _ (cycle : State → Outcome Cycled) (main local state : List ℕ) where
-  pub call_short : (r : ℕ) → length state < record_length → r ≡ coded REFUSED 19 0 → called r main local state ≡ call_by cycle main local state
+  pub call_short : (r : ℕ) → length state < record_length → r ≡ refused R.Room → called r main local state ≡ call_by cycle main local state
   unfolding call_by
   call_short r h e = rw (lt-ltb (length state) record_length h, e)
 
@@ -85,7 +82,7 @@ module _ (cycle : State → Outcome Cycled) (main local state : List ℕ) where
 -- ---- a run
 
 module _ (reading : Reading) (store main local state : List ℕ) (budget : ℕ) where
-  pub run_short : (k r : ℕ) → length state < record_length → k ≡ coded REFUSED 19 0 → r ≡ counted k 0 → called r main local state ≡ run_call reading store main local state budget
+  pub run_short : (k r : ℕ) → length state < record_length → k ≡ refused R.Room → r ≡ counted k 0 → called r main local state ≡ run_call reading store main local state budget
   unfolding run_call
   run_short k r h e q = rw (lt-ltb (length state) record_length h, q, e)
 
@@ -113,26 +110,26 @@ module _ (reading : Reading) (store main local state : List ℕ) (budget : ℕ) 
 -- ---- a trap
 
 module _ (address : ℕ) (state : List ℕ) where
-  pub trap_short : length state < record_length → answered 19 state ≡ trap_call address state
+  pub trap_short : (n : ℕ) → n ≡ 19 → length state < record_length → answered n state ≡ trap_call address state
   unfolding trap_call
-  trap_short h = rw (lt-ltb (length state) record_length h)
+  trap_short n e h = rw (lt-ltb (length state) record_length h, e)
 
-  pub trap_is : record_length ≤ length state → (s : State) (a x : Trapped) → s ≡ loaded state → a ≡ trap_of address s → a ≡ x → answer_trap x state ≡ trap_call address state
+  pub trap_is : record_length ≤ length state → (s : State) (a x : Result State Refusal) → s ≡ loaded state → a ≡ trap_of address s → a ≡ x → answer_trap x state ≡ trap_call address state
   unfolding trap_call
   trap_is h s a x in_state is e =
-      ap (λ (y : Trapped). answer_trap y state) (sym e ∙ is ∙ ap (trap_of address) in_state) ∙ rw (le-ltb (length state) record_length h)
+      ap (λ (y : Result State Refusal). answer_trap y state) (sym e ∙ is ∙ ap (trap_of address) in_state) ∙ rw (le-ltb (length state) record_length h)
 
 -- ---- the work of the next word
 
 module _ (store state work : List ℕ) where
-  pub next_short : ltb (length state) record_length || ltb (length work) 8 ≡ true → answered 19 work ≡ next_sum_call store state work
+  pub next_short : (n : ℕ) → n ≡ 19 → ltb (length state) record_length || ltb (length work) 8 ≡ true → answered n work ≡ next_sum_call store state work
   unfolding next_sum_call
-  next_short h = rw h
+  next_short n e h = rw (h, e)
 
-  pub next_is : ltb (length state) record_length || ltb (length work) 8 ≡ false → (s : State) (n x : NextSum) → s ≡ loaded state → n ≡ next_sum_of store s → n ≡ x
+  pub next_is : ltb (length state) record_length || ltb (length work) 8 ≡ false → (s : State) (n x : Option Work) → s ≡ loaded state → n ≡ next_sum_of store s → n ≡ x
       → answer_next x work ≡ next_sum_call store state work
   unfolding next_sum_call
-  next_is h s n x in_state is e = ap (λ (y : NextSum). answer_next y work) (sym e ∙ is ∙ ap (next_sum_of store) in_state) ∙ rw h
+  next_is h s n x in_state is e = ap (λ (y : Option Work). answer_next y work) (sym e ∙ is ∙ ap (next_sum_of store) in_state) ∙ rw h
 
 -- ---- decimal add, and add and subtract with signs
 
@@ -143,14 +140,14 @@ added m l a r o e q = (λ i. outcome (q i) m l) ∙ ap added_by e
 
 module _ (field : List ℕ) (number : List ℤ) where
   -- past the answer's own refusal, 19 where no number is lent
-  pub signed_short : (z : ℤ) → R.Number z ≡ read_signed field → length number < 1 → answered 19 number ≡ read_signed_call field number
+  pub signed_short : (z : ℤ) (n : ℕ) → n ≡ 19 → Ok z ≡ read_signed field → length number < 1 → answered n number ≡ read_signed_call field number
   unfolding read_signed_call
-  signed_short z e h = rw (← e, lt-ltb (length number) 1 h)
+  signed_short z n is e h = rw (← e, lt-ltb (length number) 1 h, is)
 
-  pub signed_is : (z : ℤ) → R.Number z ≡ read_signed field → 1 ≤ length number → answered 0 (set number 0 (to_z w64 (of_z w64 z))) ≡ read_signed_call field number
+  pub signed_is : (z : ℤ) → Ok z ≡ read_signed field → 1 ≤ length number → answered 0 (set number 0 (to_z w64 (of_z w64 z))) ≡ read_signed_call field number
   unfolding read_signed_call
   signed_is z e h = rw (← e, le-ltb (length number) 1 h, read_whole field z (sym e)) (ap (answered 0) (front number z h))
 
-  pub signed_refused : (n : ℕ) → R.Refused n ≡ read_signed field → answered n number ≡ read_signed_call field number
+  pub signed_refused : (r : Refusal) (n : ℕ) → n ≡ refusal_number r → Err r ≡ read_signed field → answered n number ≡ read_signed_call field number
   unfolding read_signed_call
-  signed_refused n e = rw (← e)
+  signed_refused r n is e = rw (← e, is)

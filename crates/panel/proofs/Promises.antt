@@ -1,12 +1,14 @@
 -- What the answers mean, and that no second answer fits. Assumes nothing.
-use Prim.Native.Nat.{ℕ, zero, suc, ◌^◌, ◌<◌, ◌≤◌}
+use Prim.Native.Nat.{ℕ, ◌^◌, ◌<◌, ◌≤◌}
 use mathlib.Core.Path.{◌≡◌, refl, ap}
 use mathlib.Core.List.{List}
 use mathlib.Core.Bool.{Bool, true, false, cond}
 use native.Mathlib.Omega.{arith}
 use lib.Dec.{ltb}
 use lib.ListN.{length}
+use Rattle.std.specs.Prelude.{Option, Some, None}
 use Rattle.digits.specs.Refusal.{first}
+use Rattle.digits.specs.declared.refusal.Refusal.{Refusal}
 use Rattle.digits.proofs.Sole.{sole}
 use Rattle.word.specs.Layout.{fields_of}
 use Rattle.word.specs.declared.Fields.{Fields}
@@ -25,7 +27,7 @@ use Rattle.run.proofs.Promises.{run_goes}
 use Rattle.session.specs.Turn.{turn_of}
 use Rattle.session.proofs.Turns.{turn_stops, turn_refuses}
 use Rattle.channels.specs.Channels.{record_length, loaded}
-use Rattle.panel.specs.Answers.{RAN, coded, STOPPED, REFUSED, answered, Called, called, short, answer_cycle, cycled_by, call_by, cycle_call, turn_call, ran_by, run_call}
+use Rattle.panel.specs.Answers.{RAN, coded, STOPPED, refused, answered, Called, called, short, answer_cycle, cycled_by, call_by, cycle_call, turn_call, ran_by, run_call}
 use Rattle.panel.proofs.Calls.{by_record}
 use Rattle.panel.proofs.panel_take_apart.Reads as take_apart
 use Rattle.panel.proofs.panel_pack.Reads as pack
@@ -56,14 +58,14 @@ Untouched main local state c = c ≡ called c.number main local state
 
 -- a cycle whose stops and refusals leave everything
 module _ (cycle : State → Outcome Cycled) (main local state : List ℕ) (keeps : (t : State) → ((cycle (loaded state)).answer ≡ C.Stopped t → Kept main local (loaded state) t (cycle (loaded state)))
-    × ((n g : ℕ) → (cycle (loaded state)).answer ≡ C.Refused t n g → Kept main local (loaded state) t (cycle (loaded state)))) where
+    × ((r : Refusal) → (cycle (loaded state)).answer ≡ C.Refused t r → Kept main local (loaded state) t (cycle (loaded state)))) where
   abbrev o : Outcome Cycled
   o = cycle (loaded state)
 
   call_same : (a : Cycled) → o.answer ≡ a → ((answer_cycle a state).number ≡ RAN → ⊥) → Untouched main local state (called (answer_cycle a state).number o.main o.local (answer_cycle a state).lent)
   call_same (C.Ran t) e h = absurd (h refl)
   call_same (C.Stopped t) e h = let k = (keeps t).0 e in λ i. called (coded STOPPED 0 0) (k.in_main i) (k.in_local i) state
-  call_same (C.Refused t n f) e h = let k = (keeps t).1 n f e in λ i. called (coded REFUSED n f) (k.in_main i) (k.in_local i) state
+  call_same (C.Refused t r) e h = let k = (keeps t).1 r e in λ i. called (refused r) (k.in_main i) (k.in_local i) state
 
   call_keeps : ((call_by cycle main local state).number ≡ RAN → ⊥) → Untouched main local state (call_by cycle main local state)
   unfolding call_by
@@ -104,16 +106,16 @@ run_keeps reading store main local state budget = by_record reading store main l
 abbrev pub Unlit : Cycled → Type 0
 Unlit (C.Ran t) = t.arriving ≡ false → t.arriving_byte ≡ 0
 Unlit (C.Stopped t) = Unit {0}
-Unlit (C.Refused t number field) = Unit {0}
+Unlit (C.Refused t r) = Unit {0}
 
 ran_unlit : (reading : Reading) (f : Fields) (main local : List ℕ) (s : State) → Unlit (ran_of reading f main local s).answer
 unfolding ran_of
 ran_unlit reading f main local s h = rw h
 
-decided_unlit : (reading : Reading) (n : ℕ) (stop : Bool) (f : Fields) (main local : List ℕ) (s : State) → Unlit (decided reading n stop f main local s).answer
-decided_unlit reading (suc n) stop f main local s = tt
-decided_unlit reading zero true f main local s = tt
-decided_unlit reading zero false f main local s = ran_unlit reading f main local s
+decided_unlit : (reading : Reading) (k : Option Refusal) (stop : Bool) (f : Fields) (main local : List ℕ) (s : State) → Unlit (decided reading k stop f main local s).answer
+decided_unlit reading (Some r) stop f main local s = tt
+decided_unlit reading None true f main local s = tt
+decided_unlit reading None false f main local s = ran_unlit reading f main local s
 
 pub cycle_unlit : (reading : Reading) (store main local : List ℕ) (s : State) → Unlit (cycle_of reading store main local s).answer
 unfolding cycle_in

@@ -10,11 +10,11 @@ use lib.Dec.{eqb}
 use lib.ListN.{length, get_or, set}
 use lib.Pow.{split}
 use lib.Seq.{get_or-set_same, get_or-set_other}
+use Rattle.std.specs.Prelude.{Ok}
 use Rattle.digits.specs.Table.{among}
 use Rattle.digits.proofs.Truth.{neither}
 use Rattle.trap.specs.Trap.{standing_at, trap_of}
 use Rattle.machine.specs.declared.State.{State}
-use Rattle.trap.specs.declared.Trapped.TheVariants.{Taken}
 use Rattle.trap.proofs.Calls.{taken_is}
 use Rattle.channels.specs.Channels.{record_length, loaded}
 use Rattle.panel.specs.Answers.{placed}
@@ -86,6 +86,6 @@ module _ (address : ℕ) (state : List ℕ) (long : record_length ≤ length sta
         owed = not (eqb (owed k) 0);
       }
 
-  pub trap_placed : (t : State) → trap_of address (loaded state) ≡ Taken t → loaded (placed t state) ≡ t
+  pub trap_placed : (t : State) → trap_of address (loaded state) ≡ Ok t → loaded (placed t state) ≡ t
   unfolding after_trap
   trap_placed t taken = subst (λ (x : State). loaded (placed x state) ≡ x) (taken_is address (loaded state) t taken).1 back

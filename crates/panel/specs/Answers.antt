@@ -1,11 +1,12 @@
 -- What each function of panel.h answers, and what it leaves in all it is lent. Assumes nothing.
-use Rattle.std.specs.Prelude.{ℕ, ◌+◌, ◌*◌, ◌/◌, ◌%◌, ◌^◌, List, [], ◌∷◌, true, false, cond, not, ◌||◌, eqb, ltb, ℤ, length, set}
+use Rattle.std.specs.Prelude.{ℕ, ◌+◌, ◌*◌, ◌/◌, ◌%◌, ◌^◌, List, [], ◌∷◌, true, false, cond, not, ◌||◌, eqb, ltb, ℤ, length, set, Option, Some, None, Result, Ok, Err}
 use Rattle.digits.specs.Bits.{one}
+use Rattle.digits.specs.Refusal.{refusal_number, refusal_field}
+use Rattle.digits.specs.declared.refusal.Refusal.{Refusal}
+use Rattle.digits.specs.declared.refusal.Refusal.TheVariants as R
+use Rattle.adder.specs.declared.Work.{Work}
 use Rattle.word.specs.Word.{taken_apart, packed}
-use Rattle.word.specs.declared.Apart.{Apart}
-use Rattle.word.specs.declared.Apart.TheVariants as A
-use Rattle.word.specs.declared.Packed.{Packed}
-use Rattle.word.specs.declared.Packed.TheVariants as P
+use Rattle.word.specs.declared.Fields.{Fields}
 use Rattle.codes.specs.declared.Reading.{Reading}
 use Rattle.codes.specs.declared.Reading.TheVariants.{Basic, Compatibility}
 use Rattle.machine.specs.Cycle.{Outcome, outcome, cycle_of, next_sum_of}
@@ -14,10 +15,6 @@ use Rattle.trap.specs.Trap.{trap_of}
 use Rattle.machine.specs.declared.State.{State}
 use Rattle.machine.specs.declared.Cycled.{Cycled}
 use Rattle.machine.specs.declared.Cycled.TheVariants as C
-use Rattle.trap.specs.declared.Trapped.{Trapped}
-use Rattle.trap.specs.declared.Trapped.TheVariants as T
-use Rattle.machine.specs.declared.NextSum.{NextSum}
-use Rattle.machine.specs.declared.NextSum.TheVariants as N
 use Rattle.run.specs.Run.{run_of}
 use Rattle.run.specs.declared.Finished.{Finished}
 use Rattle.run.specs.declared.Ending.{Ending}
@@ -32,15 +29,7 @@ use Rattle.session.specs.Turn.{turn_of}
 use Rattle.session.specs.Adding.{fenced_add}
 use Rattle.digits.specs.Lent.{over}
 use Rattle.deck.specs.Deck.{read_of, words_after, write_of, deck_after}
-use Rattle.deck.specs.declared.ReadIn.{ReadIn}
-use Rattle.deck.specs.declared.ReadIn.TheVariants as R
-use Rattle.deck.specs.declared.Writing.{Writing}
-use Rattle.deck.specs.declared.Writing.TheVariants as W
 use Rattle.signed.specs.Signed.{read_signed, write_signed, field_after}
-use Rattle.signed.specs.declared.ReadOut.{ReadOut}
-use Rattle.signed.specs.declared.ReadOut.TheVariants as S
-use Rattle.signed.specs.declared.Wrote.{Wrote}
-use Rattle.signed.specs.declared.Wrote.TheVariants as F
 use Rattle.channels.specs.Lamps.{width, kinds_of}
 use Rattle.channels.specs.Channels.{record_length, work_channels, saved, loaded, worked}
 use Rattle.panel.specs.Fields.{field_bytes, fields_in}
@@ -72,6 +61,20 @@ coded kind number field = kind + 256 * number + 65536 * field
 abbrev pub counted : ℕ → ℕ → ℕ
 counted code count = code + 2 ^ 32 * count
 
+-- "0, .. or the refusal's number"
+abbrev pub status : {A : Type 0} → Result A Refusal → ℕ
+status (Ok x) = 0
+status (Err r) = refusal_number r
+
+-- "the count of words, or of bytes, that were written, and 65536 * refusal number (the count is then 0)"
+abbrev pub count_of : Result ℕ Refusal → ℕ
+count_of (Ok count) = count
+count_of (Err r) = 65536 * refusal_number r
+
+-- PANEL_REFUSED, with 10's field
+abbrev pub refused : Refusal → ℕ
+refused r = coded REFUSED (refusal_number r) (refusal_field r)
+
 -- ---- a word
 
 -- a number, and what was lent to be written as it then is
@@ -83,18 +86,18 @@ abbrev pub answered : {A : Type 0} → ℕ → List A → Answered A
 answered number lent = record { number = number; lent = lent }
 
 -- "0, with the 18 fields other than PN, PA, PS and PC written in word order, one to a byte; or the refusal's number."
-abbrev pub answer_apart : Apart → List ℕ → Answered ℕ
-answer_apart (A.Fields f) fields = answered 0 (over (field_bytes f) fields)
-answer_apart (A.Refused number) fields = answered number fields
+abbrev pub answer_apart : Result Fields Refusal → List ℕ → Answered ℕ
+answer_apart (Ok f) fields = answered 0 (over (field_bytes f) fields)
+answer_apart (Err r) fields = answered (refusal_number r) fields
 
 -- "19 where fewer than 18 bytes are lent, checked first."
 unfoldable pub take_apart_call : ℕ → ℕ → List ℕ → Answered ℕ
 take_apart_call word address fields = cond (ltb (length fields) 18) (answered 19 fields) (answer_apart (taken_apart word address) fields)
 
 -- "0, with the word written to word[0]; or the refusal's number."
-abbrev pub answer_packed : Packed → List ℕ → Answered ℕ
-answer_packed (P.Word w) word = answered 0 (over (w ∷ []) word)
-answer_packed (P.Refused number) word = answered number word
+abbrev pub answer_packed : Result ℕ Refusal → List ℕ → Answered ℕ
+answer_packed (Ok w) word = answered 0 (over (w ∷ []) word)
+answer_packed (Err r) word = answered (refusal_number r) word
 
 -- "19 where fewer than 18 fields or no word are lent, checked first; further bytes are not read."
 unfoldable pub pack_call : List ℕ → ℕ → List ℕ → Answered ℕ
@@ -115,13 +118,13 @@ called number main local state = record { number = number; main = main; local = 
 
 -- a record that is too short: "19 where fewer than PANEL_STATE bytes of state are lent, checked first"
 abbrev pub short : List ℕ → List ℕ → List ℕ → Called
-short main local state = called (coded REFUSED 19 0) main local state
+short main local state = called (refused R.Room) main local state
 
 -- PANEL_RAN, PANEL_STOPPED or PANEL_REFUSED; the record is written by a cycle that ran, and by nothing else
 abbrev pub answer_cycle : Cycled → List ℕ → Answered ℕ
 answer_cycle (C.Ran s) state = answered (coded RAN 0 0) (over (saved s) state)
 answer_cycle (C.Stopped s) state = answered (coded STOPPED 0 0) state
-answer_cycle (C.Refused s number field) state = answered (coded REFUSED number field) state
+answer_cycle (C.Refused s r) state = answered (refused r) state
 
 abbrev pub cycled_by : Outcome Cycled → List ℕ → Called
 cycled_by o state = called (answer_cycle o.answer state).number o.main o.local (answer_cycle o.answer state).lent
@@ -144,7 +147,7 @@ turn_call own other reading store main local state = call_by (turn_of own other 
 -- PANEL_STOPPED, PANEL_REFUSED or PANEL_SPENT
 abbrev pub ending_code : Ending → ℕ
 ending_code E.Stopped = coded STOPPED 0 0
-ending_code (E.Refused number field) = coded REFUSED number field
+ending_code (E.Refused r) = refused r
 ending_code E.Spent = coded SPENT 0 0
 
 -- the record after so many cycles: where none ran, nothing is written, so that a latch byte of 7 stays 7
@@ -166,9 +169,9 @@ abbrev pub placed : State → List ℕ → List ℕ
 placed t state = set (set (set (set (set state 13 (t.wx / 256)) 14 (t.wx % 256)) 24 (t.fwx / 256)) 25 (t.fwx % 256)) 26 (one t.owed)
 
 -- "0, or 19, 29 or 30, and then nothing is changed"
-abbrev pub answer_trap : Trapped → List ℕ → Answered ℕ
-answer_trap (T.Taken t) state = answered 0 (placed t state)
-answer_trap (T.Refused t number) state = answered number state
+abbrev pub answer_trap : Result State Refusal → List ℕ → Answered ℕ
+answer_trap (Ok t) state = answered 0 (placed t state)
+answer_trap (Err r) state = answered (refusal_number r) state
 
 unfoldable pub trap_call : ℕ → List ℕ → Answered ℕ
 trap_call address state = cond (ltb (length state) record_length) (answered 19 state) (answer_trap (trap_of address (loaded state)) state)
@@ -176,9 +179,9 @@ trap_call address state = cond (ltb (length state) record_length) (answered 19 s
 -- ---- the work of the word that would run next
 
 -- "0, with PANEL_WORK bytes written; 1 where no sum would be made"
-abbrev pub answer_next : NextSum → List ℕ → Answered ℕ
-answer_next (N.Sums w) work = answered 0 (over (worked w) work)
-answer_next N.Nothing work = answered 1 work
+abbrev pub answer_next : Option Work → List ℕ → Answered ℕ
+answer_next (Some w) work = answered 0 (over (worked w) work)
+answer_next None work = answered 1 work
 
 -- PANEL_WORK: 8
 abbrev pub work_length : ℕ
@@ -219,7 +222,7 @@ shipped_signed_call words = handed signed_words words
 abbrev pub added_code : Added → ℕ
 added_code (D.Summed carry count) = counted (coded SUMMED 0 (one carry)) count
 added_code (D.BadDigit count) = counted (coded BAD-DIGIT 0 0) count
-added_code (D.Refused number) = counted (coded REFUSED number 0) 0
+added_code (D.Refused r) = counted (coded REFUSED (refusal_number r) 0) 0
 
 abbrev pub added_by : Outcome Added → Outcome ℕ
 added_by o = outcome (added_code o.answer) o.main o.local
@@ -243,35 +246,22 @@ sub_signed_call main local first second n = added_by (signed_of main local first
 
 -- ---- a deck
 
--- "the count of words, or of bytes, that were written, and 65536 * refusal number (the count is then 0)"
-abbrev pub read_number : ReadIn → ℕ
-read_number (R.Words count) = count
-read_number (R.Refused number) = 65536 * number
-
-abbrev pub write_number : Writing → ℕ
-write_number (W.Bytes count) = count
-write_number (W.Refused number) = 65536 * number
-
 unfoldable pub read_deck_call : List ℕ → List ℕ → Answered ℕ
-read_deck_call deck words = answered (read_number (read_of deck (length words))) (words_after deck words)
+read_deck_call deck words = answered (count_of (read_of deck (length words))) (words_after deck words)
 
 unfoldable pub write_deck_call : List ℕ → List ℕ → Answered ℕ
-write_deck_call words deck = answered (write_number (write_of words (length deck))) (deck_after words deck)
+write_deck_call words deck = answered (count_of (write_of words (length deck))) (deck_after words deck)
 
 -- ---- a signed field
 
 -- "0, with the number written to number[0]; or the refusal's number"; "then 19 where no number is lent"
-abbrev pub answer_signed : ReadOut → List ℤ → Answered ℤ
-answer_signed (S.Number z) number = cond (ltb (length number) 1) (answered 19 number) (answered 0 (over (z ∷ []) number))
-answer_signed (S.Refused n) number = answered n number
+abbrev pub answer_signed : Result ℤ Refusal → List ℤ → Answered ℤ
+answer_signed (Ok z) number = cond (ltb (length number) 1) (answered 19 number) (answered 0 (over (z ∷ []) number))
+answer_signed (Err r) number = answered (refusal_number r) number
 
 unfoldable pub read_signed_call : List ℕ → List ℤ → Answered ℤ
 read_signed_call field number = answer_signed (read_signed field) number
 
 -- "0, with the field written; or the refusal's number"
-abbrev pub wrote_number : Wrote → ℕ
-wrote_number F.Written = 0
-wrote_number (F.Refused n) = n
-
 unfoldable pub write_signed_call : ℤ → List ℕ → Answered ℕ
-write_signed_call number field = answered (wrote_number (write_signed number field)) (field_after number field)
+write_signed_call number field = answered (status (write_signed number field)) (field_after number field)

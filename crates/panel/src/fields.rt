@@ -47,6 +47,5 @@ pub(crate) fn put_fields(f: Fields, bytes: &mut [u8])
     requires { 18 ≤ length bytes.old }
     ensures { bytes.new ≡ over (field_bytes f) bytes.old }
 {
-    let shown = field_bytes(f);
-    digits::copy(&shown[0..18], bytes);
+    digits::copy(&field_bytes(f), bytes);
 }

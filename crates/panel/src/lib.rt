@@ -3,25 +3,23 @@
 
 mod fields;
 
-ghost use Rattle.std.specs.Prelude.{◌≡◌, ◌≤◌, length};
+ghost use Rattle.std.specs.Prelude.{◌≡◌, ◌<◌, ◌≤◌, length, IfOk};
 ghost use Rattle.machine.specs.Cycle.{outcome};
 ghost use Rattle.session.specs.Opening.{open_of};
-ghost use Rattle.panel.specs.Answers.{coded, counted, answered, take_apart_call, pack_call, called, reading_of, answer_cycle, cycle_call, turn_call, ending_code, record_after, run_call, placed, trap_call, next_sum_call, started, start_call, start_signed_call, handed, shipped_call, shipped_signed_call, added_code, add_decimal_call, add_decimal_in_call, add_signed_call, sub_signed_call, read_deck_call, write_deck_call, read_signed_call, write_signed_call};
+ghost use Rattle.panel.specs.Answers.{coded, counted, answered, take_apart_call, pack_call, called, status, count_of, refused, reading_of, answer_cycle, cycle_call, turn_call, ending_code, record_after, run_call, placed, trap_call, next_sum_call, started, start_call, start_signed_call, handed, shipped_call, shipped_signed_call, added_code, add_decimal_call, add_decimal_in_call, add_signed_call, sub_signed_call, read_deck_call, write_deck_call, read_signed_call, write_signed_call};
 ghost use Rattle.digits.specs.Lent.{over};
+ghost use Rattle.digits.specs.Refusal.{refusal_number};
 ghost use Rattle.channels.specs.Channels.{record_length, saved, worked};
 
 use adder::Work;
 use codes::Reading;
 use decimal::Added;
-use deck::{ReadIn, Writing};
-use machine::{Cycled, NextSum, State};
+use digits::Refusal;
+use machine::{Cycled, State};
 use run::Ending;
-use signed::{ReadOut, Wrote};
 use storage::Fence;
-use trap::Trapped;
-use word::{Apart, Packed};
 
-// enum panel_kind.
+// enum panel_kind: numbers, as the C interface has them.
 const RAN: u8 = 0;
 
 const STOPPED: u8 = 1;
@@ -55,20 +53,57 @@ fn counted(code: u32, count: u32) -> u64
     code as u64 + 0x1_0000_0000 * count as u64
 }
 
+// The number of a refusal, alone. Its table stands once in the library: laid out at each call it takes more than a small board's room
+// for constants (tests/size/run).
+#[inline(never)]
+fn number_of(refusal: Refusal) -> u32
+    ensures { (result ≡ refusal_number refusal) × (result < 256) }
+{
+    refusal.number() as u32
+}
+
+// 0, or the refusal's number.
+fn status(answer: Result<(), Refusal>) -> u32
+    ensures { result ≡ status answer }
+{
+    match answer {
+        Ok(()) => 0,
+        Err(refusal) => number_of(refusal),
+    }
+}
+
+// The count, or 65536 * the refusal's number.
+fn count_of(answer: Result<usize, Refusal>) -> u32
+    requires { IfOk answer (λ n. n < 4294967296) }
+    ensures { result ≡ count_of answer }
+{
+    match answer {
+        Ok(count) => count as u32,
+        Err(refusal) => 65536 * number_of(refusal),
+    }
+}
+
+// How a cycle or a run is refused, with 10's field.
+fn refused(refusal: Refusal) -> u32
+    ensures { result ≡ refused refusal }
+{
+    coded(REFUSED, number_of(refusal) as u8, refusal.field())
+}
+
 // 0 and the 18 fields, or the refusal's number.
 #[unsafe(no_mangle)]
 pub extern "C" fn panel_take_apart(word: u64, address: u32, fields: &mut [u8]) -> u32
     ensures { answered result fields.new ≡ take_apart_call word address fields.old }
 {
     if fields.len() < FIELDS {
-        return 19;
+        return number_of(Refusal::Room);
     }
     match word::take_apart(word, address) {
-        Apart::Fields(f) => {
+        Ok(f) => {
             fields::put_fields(f, fields);
             0
         }
-        Apart::Refused(number) => number as u32,
+        Err(refusal) => number_of(refusal),
     }
 }
 
@@ -78,18 +113,18 @@ pub extern "C" fn panel_pack(fields: &[u8], address: u32, word: &mut [u64]) -> u
     ensures { answered result word.new ≡ pack_call fields.now address word.old }
 {
     if (fields.len() < FIELDS) | (word.len() < 1) {
-        return 19;
+        return number_of(Refusal::Room);
     }
     match word::pack(fields::fields_in(fields), address) {
-        Packed::Word(w) => {
+        Ok(w) => {
             word[0] = w;
             0
         }
-        Packed::Refused(number) => number as u32,
+        Err(refusal) => number_of(refusal),
     }
 }
 
-// Puts the record of a state.
+// Puts the record of a state, which stays a slice of at least its length: through C a longer record may be lent.
 fn save(s: State, state: &mut [u8])
     requires { record_length ≤ length state.old }
     ensures { state.new ≡ over (saved s) state.old }
@@ -108,7 +143,7 @@ fn tell(answer: Cycled, state: &mut [u8]) -> u32
             coded(RAN, 0, 0)
         }
         Cycled::Stopped(_) => coded(STOPPED, 0, 0),
-        Cycled::Refused(_, number, field) => coded(REFUSED, number, field),
+        Cycled::Refused(_, refusal) => refused(refusal),
     }
 }
 
@@ -135,14 +170,10 @@ pub extern "C" fn panel_cycle(
     ensures { called result main.new local.new state.new ≡ cycle_call (reading_of reading) store.now main.old local.old state.old }
 {
     if state.len() < STATE {
-        return coded(REFUSED, 19, 0);
+        return refused(Refusal::Room);
     }
-    let whole = Fence {
-        start: 0,
-        end: 65536,
-    };
     let now = channels::loaded(state);
-    let answer = run::one(whole, reading_of(reading), store, main, local, now);
+    let answer = run::one(Fence::whole(), reading_of(reading), store, main, local, now);
     tell(answer, state)
 }
 
@@ -151,7 +182,7 @@ fn ending_code(ending: Ending) -> u32
 {
     match ending {
         Ending::Stopped => coded(STOPPED, 0, 0),
-        Ending::Refused(number, field) => coded(REFUSED, number, field),
+        Ending::Refused(refusal) => refused(refusal),
         Ending::Spent => coded(SPENT, 0, 0),
     }
 }
@@ -180,7 +211,7 @@ pub extern "C" fn panel_run(
     ensures { called result main.new local.new state.new ≡ run_call (reading_of reading) store.now main.old local.old state.old budget }
 {
     if state.len() < STATE {
-        return counted(coded(REFUSED, 19, 0), 0);
+        return counted(refused(Refusal::Room), 0);
     }
     let finished = run::run(
         reading_of(reading),
@@ -190,14 +221,11 @@ pub extern "C" fn panel_run(
         channels::loaded(state),
         budget,
     );
-    let count = finished.count;
-    let last = finished.state;
-    let ending = finished.ending;
-    save_after(count, last, state);
-    counted(ending_code(ending), count)
+    save_after(finished.count, finished.state, state);
+    counted(ending_code(finished.ending), finished.count)
 }
 
-// Puts the record of a cycle's work.
+// Puts the record of a cycle's work: one line, as that of a state, of another length.
 fn save_work(w: Work, work: &mut [u8])
     requires { 8 ≤ length work.old }
     ensures { work.new ≡ over (worked w) work.old }
@@ -211,14 +239,14 @@ pub extern "C" fn panel_next_sum(store: &[u64], state: &[u8], work: &mut [u8]) -
     ensures { answered result work.new ≡ next_sum_call store.now state.now work.old }
 {
     if (state.len() < STATE) | (work.len() < WORK) {
-        return 19;
+        return number_of(Refusal::Room);
     }
     match machine::next_sum(store, channels::loaded(state)) {
-        NextSum::Sums(w) => {
+        Some(w) => {
             save_work(w, work);
             0
         }
-        NextSum::Nothing => 1,
+        None => 1,
     }
 }
 
@@ -227,7 +255,7 @@ fn started(s: State, state: &mut [u8]) -> u32
     ensures { answered result state.new ≡ started s state.old }
 {
     if state.len() < STATE {
-        return 19;
+        return number_of(Refusal::Room);
     }
     save(s, state);
     0
@@ -253,10 +281,10 @@ fn handed(program: &[u64], words: &mut [u64]) -> u32
     ensures { answered result words.new ≡ handed program.now words.old }
 {
     if words.len() < program.len() {
-        return 65536 * 19;
+        return count_of(Err(Refusal::Room));
     }
-    digits::copy_words(program, words);
-    program.len() as u32
+    digits::copy(program, words);
+    count_of(Ok(program.len()))
 }
 
 // The shipped words.
@@ -289,7 +317,7 @@ pub extern "C" fn panel_shipped_signed(words: &mut [u64]) -> u32
     handed(&apsp::words(), words)
 }
 
-// Puts WX, FWX and the latch of a state in its record, and no other byte.
+// Puts WX, FWX and the latch of a state in its record, each by its place, and no other byte.
 fn place(t: State, state: &mut [u8])
     requires { record_length ≤ length state.old }
     ensures { state.new ≡ placed t state.old }
@@ -308,14 +336,14 @@ pub extern "C" fn panel_trap(address: u32, state: &mut [u8]) -> u32
     ensures { answered result state.new ≡ trap_call address state.old }
 {
     if state.len() < STATE {
-        return 19;
+        return number_of(Refusal::Room);
     }
     match trap::trap(channels::loaded(state), address) {
-        Trapped::Taken(t) => {
+        Ok(t) => {
             place(t, state);
             0
         }
-        Trapped::Refused(_, number) => number as u32,
+        Err(refusal) => number_of(refusal),
     }
 }
 
@@ -328,7 +356,7 @@ pub extern "C" fn panel_open(
     b_start: usize,
     b_end: usize,
 ) -> u32
-    ensures { result ≡ open_of main_len (record { start = a_start; end = a_end }) (record { start = b_start; end = b_end }) }
+    ensures { result ≡ status (open_of main_len (record { start = a_start; end = a_end }) (record { start = b_start; end = b_end })) }
 {
     let a = Fence {
         start: a_start,
@@ -338,7 +366,7 @@ pub extern "C" fn panel_open(
         start: b_start,
         end: b_end,
     };
-    session::open(main_len, a, b) as u32
+    status(session::open(main_len, a, b))
 }
 
 // One turn of a board.
@@ -357,12 +385,9 @@ pub extern "C" fn panel_turn(
     ensures { called result main.new local.new state.new ≡ turn_call (record { start = start; end = end }) (record { start = other_start; end = other_end }) (reading_of reading) store.now main.old local.old state.old }
 {
     if state.len() < STATE {
-        return coded(REFUSED, 19, 0);
+        return refused(Refusal::Room);
     }
-    let own = Fence {
-        start: start,
-        end: end,
-    };
+    let own = Fence { start, end };
     let other = Fence {
         start: other_start,
         end: other_end,
@@ -379,7 +404,7 @@ fn added_code(added: Added) -> u64
     match added {
         Added::Summed(carry, count) => counted(coded(SUMMED, 0, digits::one(carry)), count),
         Added::BadDigit(count) => counted(coded(BAD_DIGIT, 0, 0), count),
-        Added::Refused(number) => counted(coded(REFUSED, number, 0), 0),
+        Added::Refused(refusal) => counted(coded(REFUSED, number_of(refusal) as u8, 0), 0),
     }
 }
 
@@ -412,10 +437,7 @@ pub extern "C" fn panel_add_decimal_in(
 ) -> u64
     ensures { outcome result main.new local.new ≡ add_decimal_in_call (record { start = start; end = end }) main.old local.old first second length carry }
 {
-    let fence = Fence {
-        start: start,
-        end: end,
-    };
+    let fence = Fence { start, end };
     added_code(session::add(fence, main, local, first, second, length, carry != 0))
 }
 
@@ -452,10 +474,7 @@ pub extern "C" fn panel_sub_signed(
 pub extern "C" fn panel_read_deck(deck: &[u8], words: &mut [u64]) -> u32
     ensures { answered result words.new ≡ read_deck_call deck.now words.old }
 {
-    match deck::read(deck, words) {
-        ReadIn::Words(count) => count as u32,
-        ReadIn::Refused(number) => 65536 * number as u32,
-    }
+    count_of(deck::read(deck, words))
 }
 
 // Words to deck: the count of bytes, or 65536 * refusal number.
@@ -463,10 +482,7 @@ pub extern "C" fn panel_read_deck(deck: &[u8], words: &mut [u64]) -> u32
 pub extern "C" fn panel_write_deck(words: &[u64], deck: &mut [u8]) -> u32
     ensures { answered result deck.new ≡ write_deck_call words.now deck.old }
 {
-    match deck::write(words, deck) {
-        Writing::Bytes(count) => count as u32,
-        Writing::Refused(number) => 65536 * number as u32,
-    }
+    count_of(deck::write(words, deck))
 }
 
 // The number of a signed field: 0 and the number, or the refusal's number.
@@ -475,14 +491,14 @@ pub extern "C" fn panel_read_signed(field: &[u8], number: &mut [i64]) -> u32
     ensures { answered result number.new ≡ read_signed_call field.now number.old }
 {
     match signed::read_signed(field) {
-        ReadOut::Number(z) => {
+        Ok(z) => {
             if number.len() < 1 {
-                return 19;
+                return number_of(Refusal::Room);
             }
             number[0] = z;
             0
         }
-        ReadOut::Refused(refusal) => refusal as u32,
+        Err(refusal) => number_of(refusal),
     }
 }
 
@@ -491,8 +507,5 @@ pub extern "C" fn panel_read_signed(field: &[u8], number: &mut [i64]) -> u32
 pub extern "C" fn panel_write_signed(number: i64, field: &mut [u8]) -> u32
     ensures { answered result field.new ≡ write_signed_call number field.old }
 {
-    match signed::write_signed(number, field) {
-        Wrote::Written => 0,
-        Wrote::Refused(refusal) => refusal as u32,
-    }
+    status(signed::write_signed(number, field))
 }

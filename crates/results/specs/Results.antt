@@ -2,6 +2,7 @@
 use Rattle.std.specs.Prelude.{ℕ, ◌+◌, ◌-◌, List, [], ◌∷◌, ◌++◌, Bool, true, false, cond, length, get_or, take}
 use Rattle.digits.specs.Bits.{one}
 use Rattle.digits.specs.Digits.{high, low}
+use Rattle.digits.specs.Refusal.{refusal_number}
 use Rattle.digits.specs.Packed.{sign_of, is_minus}
 use Rattle.text.specs.Ascii.{ascii}
 use Rattle.text.specs.Text.{hexadecimal, field_digits, decimal}
@@ -42,4 +43,4 @@ refusal_of number = ascii ": REFUSED " ++ (decimal number ++ (10 ∷ []))
 unfoldable pub result_of : Bool → List ℕ → Added → List ℕ
 result_of signs field (D.Summed mark count) = sum_of signs field mark
 result_of signs field (D.BadDigit count) = bad_of signs
-result_of signs field (D.Refused number) = refusal_of number
+result_of signs field (D.Refused refusal) = refusal_of (refusal_number refusal)

@@ -6,45 +6,41 @@ ghost use Rattle.text.specs.Text.{put_of, room_after};
 ghost use Rattle.results.specs.Results.{told_of, carry_end, sign_mark, signed_end, sum_of, bad_of, refusal_of, result_of};
 
 use decimal::Added;
-use text::Written;
+use digits::Refusal;
 
 // The digits of some bytes, and how the line ends.
-fn told(field: &[u8], end: &[u8], room: &mut [u8]) -> Written
+fn told(field: &[u8], end: &[u8], room: &mut [u8]) -> Result<usize, Refusal>
     requires { length end.now ≤ 12 }
     ensures { (result ≡ put_of (told_of field.now end.now) (length room.old)) × (room.new ≡ room_after (told_of field.now end.now) room.old) }
 {
     let others = 3 + end.len();
     if room.len() < others {
-        return Written::Refused(19);
+        return Err(Refusal::Room);
     }
     // half, as twice a length may pass 64 bits
     if (room.len() - others) / 2 < field.len() {
-        return Written::Refused(19);
+        return Err(Refusal::Room);
     }
     let at = 3 + 2 * field.len();
     let size = at + end.len();
     digits::copy(b" = ", room);
-    text::put_digits(field, &mut room[3..at]);
+    let _ = text::put_digits(field, &mut room[3..at]);
     digits::copy(end, &mut room[at..size]);
-    Written::Text(size)
+    Ok(size)
 }
 
 fn carry_end(carry: bool) -> [u8; 9]
     ensures { result ≡ carry_end carry }
 {
     let mut text = *b" CARRY 0\n";
-    text[7] = 48 + digits::one(carry);
+    text[7] = b'0' + digits::one(carry);
     text
 }
 
 fn sign_mark(digit: u8) -> u8
     ensures { result ≡ sign_mark digit }
 {
-    if (digit == 11) | (digit == 13) {
-        b'-'
-    } else {
-        b'+'
-    }
+    if matches!(digit, 11 | 13) { b'-' } else { b'+' }
 }
 
 // How many bytes the end of a signed sum takes.
@@ -59,7 +55,7 @@ fn signed_end(byte: u8, overflow: bool) -> [u8; 12]
     ensures { take (cond overflow 12 3) result ≡ signed_end byte overflow }
 {
     let mut end = *b"0+ OVERFLOW\n";
-    text::put_hexadecimal((byte / 16) as u64, &mut end[0..1]);
+    text::put_hexadecimal((byte / 16) as u64, &mut end[..1]);
     end[1] = sign_mark(byte % 16);
     if overflow {
         return end;
@@ -68,25 +64,18 @@ fn signed_end(byte: u8, overflow: bool) -> [u8; 12]
     end
 }
 
-// How many bytes stand before the last.
-fn before_last(length: usize) -> usize
-    ensures { (result ≡ length - 1) × (result ≤ length) }
-{
-    if length == 0 { 0 } else { length - 1 }
-}
-
 // With signs, the last byte ends the line.
-fn signed_sum(field: &[u8], overflow: bool, room: &mut [u8]) -> Written
+fn signed_sum(field: &[u8], overflow: bool, room: &mut [u8]) -> Result<usize, Refusal>
     ensures { (result ≡ put_of (sum_of true field.now overflow) (length room.old)) × (room.new ≡ room_after (sum_of true field.now overflow) room.old) }
 {
-    let last = before_last(field.len());
+    let last = field.len().saturating_sub(1);
     let end = signed_end(digits::byte_at(field, last), overflow);
     let size = end_size(overflow);
-    told(&field[0..last], &end[0..size], room)
+    told(&field[..last], &end[..size], room)
 }
 
 // The sum, as it stands in the first field, and the carry or the overflow.
-fn summed(signs: bool, field: &[u8], mark: bool, room: &mut [u8]) -> Written
+fn summed(signs: bool, field: &[u8], mark: bool, room: &mut [u8]) -> Result<usize, Refusal>
     ensures { (result ≡ put_of (sum_of signs field.now mark) (length room.old)) × (room.new ≡ room_after (sum_of signs field.now mark) room.old) }
 {
     if signs {
@@ -96,7 +85,7 @@ fn summed(signs: bool, field: &[u8], mark: bool, room: &mut [u8]) -> Written
     }
 }
 
-fn bad(signs: bool, room: &mut [u8]) -> Written
+fn bad(signs: bool, room: &mut [u8]) -> Result<usize, Refusal>
     ensures { (result ≡ put_of (bad_of signs) (length room.old)) × (room.new ≡ room_after (bad_of signs) room.old) }
 {
     if signs {
@@ -106,22 +95,24 @@ fn bad(signs: bool, room: &mut [u8]) -> Written
     }
 }
 
-fn refusal(number: u8, room: &mut [u8]) -> Written
+// How a refusal is told, or 19. By number, since docs/PROMISES.md answers any. What `listing:refusal` prints is another text by
+// another definition; one function of both would be no plainer.
+pub fn refusal(number: u8, room: &mut [u8]) -> Result<usize, Refusal>
     ensures { (result ≡ put_of (refusal_of number) (length room.old)) × (room.new ≡ room_after (refusal_of number) room.old) }
 {
     let mut end = [b'\n'; 4];
     digits::copy(&text::three_digits(number), &mut end);
     let from = text::zeros_in_front(number);
-    text::put_both(b": REFUSED ", &end[from..4], room)
+    text::put_both(b": REFUSED ", &end[from..], room)
 }
 
 // What two fields came to, without signs or with them: the sum with its carry or overflow, a bad digit or a refusal; or 19.
-pub fn result(signs: bool, field: &[u8], added: Added, room: &mut [u8]) -> Written
+pub fn result(signs: bool, field: &[u8], added: Added, room: &mut [u8]) -> Result<usize, Refusal>
     ensures { (result ≡ put_of (result_of signs field.now added) (length room.old)) × (room.new ≡ room_after (result_of signs field.now added) room.old) }
 {
     match added {
         Added::Summed(mark, _) => summed(signs, field, mark, room),
         Added::BadDigit(_) => bad(signs, room),
-        Added::Refused(number) => refusal(number, room),
+        Added::Refused(reason) => refusal(reason.number(), room),
     }
 }

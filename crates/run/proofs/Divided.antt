@@ -8,6 +8,7 @@ use native.Mathlib.Nat.{add-zero, zero-lt-suc}
 use native.Mathlib.Omega.{arith}
 use borrow.Author.Tests.{ne_eqb}
 use lib.Dec.{eqb}
+use Rattle.digits.specs.declared.refusal.Refusal.TheVariants as R
 use Rattle.digits.proofs.Truth.{zero_one, either_way}
 use Rattle.machine.specs.Cycle.{Outcome, outcome, cycle_in}
 use Rattle.machine.specs.declared.Cycled.{Cycled}
@@ -31,7 +32,7 @@ comes_again : (cycle : Cycle) (budget n : ℕ) (ending : Ending) (x : Machine) �
     → (n < budget) × ((more k : ℕ) → k < more → Ends cycle more k ending x)
 comes_again cycle budget n Spent x other e = absurd (other refl)
 comes_again cycle budget n Stopped x other (h, r) = (h, λ more k less. (less, r))
-comes_again cycle budget n (Refused number field) x other (h, r) = (h, λ more k less. (less, r))
+comes_again cycle budget n (Refused q) x other (h, r) = (h, λ more k less. (less, r))
 
 -- ---- the cycles alone: r is the run of the first budget
 
@@ -63,7 +64,7 @@ module _ (cycle : Cycle) (a b : ℕ) (m : Machine) (r : Outcome Finished) (d : D
 spent_or_not : (e : Ending) → (e ≡ Spent) ⊎ (e ≡ Spent → ⊥)
 spent_or_not Spent = inl refl
 spent_or_not Stopped = inr (λ z. zero_one cc)
-spent_or_not (Refused number field) = inr (λ z. zero_one cc)
+spent_or_not (Refused r) = inr (λ z. zero_one cc)
 
 -- a second run that ran no cycle from where r stood, and whose ending does not count or is r's
 adds_nothing : (b : ℕ) (r q : Outcome Finished) (e : Ending) → q ≡ ended e r.answer.state 0 r.main r.local → cond (eqb b 0) r.answer.ending e ≡ r.answer.ending → together b r q ≡ r
@@ -105,7 +106,7 @@ module _ {store : List ℕ} {cycle : Cycle} (law : Lawful store cycle) (a b : �
       wrong : Wrong store m → Divides (refused_by1 m)
       wrong e =
           let refused = wrong_refused cycle store m e in
-          (adds_nothing b (refused_by1 m) (run_at cycle b store m) (Refused 1 0) (sym (refused b)) (either_way (eqb b 0) (Refused 1 0)) ∙ refused (a + b), λ other some. sym (refused b))
+          (adds_nothing b (refused_by1 m) (run_at cycle b store m) (Refused R.Size) (sym (refused b)) (either_way (eqb b 0) (Refused R.Size)) ∙ refused (a + b), λ other some. sym (refused b))
 
       right : Right store m → Divides (run_from a 0 cycle m)
       right e =
@@ -153,7 +154,7 @@ one_back : (cycle : Cycle) (r : Cycled) (main local : List ℕ) → let z : Outc
     outcome (cycle_by z.answer.ending z.answer.state) z.main z.local ≡ outcome r main local
 one_back cycle (C.Ran t) main local = ap (λ (z : Outcome Finished). outcome (cycle_by z.answer.ending z.answer.state) z.main z.local) (spent cycle main local t 1)
 one_back cycle (C.Stopped t) main local = refl
-one_back cycle (C.Refused t number field) main local = refl
+one_back cycle (C.Refused t r) main local = refl
 
 pub one_is : {store : List ℕ} {cycle : Cycle} → Lawful store cycle → (m : Machine) (f : Finished) (main local : List ℕ) → outcome f main local ≡ run_at cycle 1 store m
     → outcome (cycle_by f.ending f.state) main local ≡ cycle m.main m.local m.state

@@ -6,10 +6,14 @@ use mathlib.Core.Bool.{true, false}
 use native.Mathlib.Nat.{add-zero, suc-add, zero-add, zero-lt-suc}
 use native.Mathlib.Omega.{arith}
 use lib.ListN.{length}
+use Rattle.std.specs.Prelude.{Some}
+use Rattle.digits.specs.Refusal.{refusal_number, refusal_field}
 use Rattle.digits.specs.Sizes.{sizes_wrong}
+use Rattle.digits.specs.declared.refusal.Refusal.{Refusal}
+use Rattle.digits.specs.declared.refusal.Refusal.TheVariants as R
 use Rattle.codes.specs.declared.Reading.{Reading}
 use Rattle.storage.specs.declared.Fence.{Fence}
-use Rattle.machine.specs.Cycle.{Outcome, outcome, cycle_in, refusal_number}
+use Rattle.machine.specs.Cycle.{Outcome, outcome, cycle_in, refusal_in}
 use Rattle.machine.proofs.Promises.{Kept, SameSizes}
 use Rattle.machine.proofs.Promises as known
 use Rattle.machine.specs.declared.State.{State}
@@ -73,14 +77,14 @@ Right store m = sizes_wrong (length store) (length m.main) (length m.local) ≡ 
 pub record Lawful (store : List ℕ) (cycle : Cycle) : Type 0 where
   -- a stop and a refusal leave everything
   pub stop_keeps : (main local : List ℕ) (s t : State) → (cycle main local s).answer ≡ C.Stopped t → Kept main local s t (cycle main local s)
-  pub refusal_keeps : (main local : List ℕ) (s t : State) (n g : ℕ) → (cycle main local s).answer ≡ C.Refused t n g → Kept main local s t (cycle main local s)
+  pub refusal_keeps : (main local : List ℕ) (s t : State) (r : Refusal) → (cycle main local s).answer ≡ C.Refused t r → Kept main local s t (cycle main local s)
   -- the storages keep their sizes
   pub sizes_stay : (main local : List ℕ) (s : State) → SameSizes main local (cycle main local s)
   -- 1 is given for wrong sizes alone, and 22 never; a refusal's number and field are bytes
-  pub refused_by_1 : (m : Machine) → Wrong store m → outcome (C.Refused m.state 1 0) m.main m.local ≡ cycle m.main m.local m.state
-  pub never_1 : (m : Machine) → Right store m → refusal_number (cycle m.main m.local m.state).answer ≡ 1 → ⊥
-  pub never_22 : (m : Machine) → refusal_number (cycle m.main m.local m.state).answer ≡ 22 → ⊥
-  pub refusal_small : (main local : List ℕ) (s t : State) (n g : ℕ) → (cycle main local s).answer ≡ C.Refused t n g → (n < 256) × (g < 256)
+  pub refused_by_1 : (m : Machine) → Wrong store m → outcome (C.Refused m.state R.Size) m.main m.local ≡ cycle m.main m.local m.state
+  pub never_1 : (m : Machine) → Right store m → refusal_in (cycle m.main m.local m.state).answer ≡ Some R.Size → ⊥
+  pub never_22 : (m : Machine) → refusal_in (cycle m.main m.local m.state).answer ≡ Some R.Budget → ⊥
+  pub refusal_small : (main local : List ℕ) (s t : State) (r : Refusal) → (cycle main local s).answer ≡ C.Refused t r → (refusal_number r < 256) × (refusal_field r < 256)
 
 -- the machine's is such a one, in any fence and under any reading
 pub lawful : (fence : Fence) (reading : Reading) (store : List ℕ) → Lawful store (cycle_in fence reading store)
@@ -108,7 +112,7 @@ goes_right {store} {cycle} law = goes_keep (Right store) still
 abbrev pub Ends : Cycle → ℕ → ℕ → Ending → Machine → Type 0
 Ends cycle budget n Spent x = n ≡ budget
 Ends cycle budget n Stopped x = (n < budget) × Halts cycle x
-Ends cycle budget n (Refused number field) x = (n < budget) × Answers cycle x (C.Refused x.state number field) x
+Ends cycle budget n (Refused r) x = (n < budget) × Answers cycle x (C.Refused x.state r) x
 
 -- ---- from the cycles to the run
 
@@ -147,7 +151,7 @@ ends {cycle} {n} {m} {x} g budget Spent e =
     let c : 0 + n ≡ n = omega arith in
     ap (λ (j : ℕ). run_from j 0 cycle m) all ∙ goes_on_lem g 0 0 ∙ spent cycle x.main x.local x.state (0 + n) ∙ ap (λ (j : ℕ). ended Spent x.state j x.main x.local) c
 ends {cycle} {n} {m} {x} g budget Stopped (h, a) = comes g (C.Stopped x.state) a budget h
-ends {cycle} {n} {m} {x} g budget (Refused number field) (h, a) = comes g (C.Refused x.state number field) a budget h
+ends {cycle} {n} {m} {x} g budget (Refused r) (h, a) = comes g (C.Refused x.state r) a budget h
 
 -- ---- from the run to the cycles
 
@@ -168,7 +172,7 @@ pub ends_later : (cycle : Cycle) (budget n : ℕ) (ending : Ending) (x : Machine
     → (k more all : ℕ) → more ≡ k + budget → all ≡ k + n → Ends cycle more all ending x
 ends_later cycle budget n Spent x e k more all m a = omega arith
 ends_later cycle budget n Stopped x (h, r) k more all m a = (omega arith, r)
-ends_later cycle budget n (Refused number field) x (h, r) k more all m a = (omega arith, r)
+ends_later cycle budget n (Refused q) x (h, r) k more all m a = (omega arith, r)
 
 one_more : {cycle : Cycle} {budget k count : ℕ} {m y x : Machine} {ending : Ending} → Leads cycle m y
     → Done cycle budget (k + 1) y ending x count → Done cycle (suc budget) k m ending x count
@@ -201,9 +205,9 @@ module _ {store : List ℕ} {cycle : Cycle} (law : Lawful store cycle) (budget k
   one_turn (C.Stopped t) o rest =
       let e = same_place t (C.Stopped t) o (law.stop_keeps m.main m.local m.state t (ap (λ (z : Outcome Cycled). z.answer) (sym o))) in
       at_once e (zero-lt-suc budget, again t (C.Stopped t) o e)
-  one_turn (C.Refused t n f) o rest =
-      let e = same_place t (C.Refused t n f) o (law.refusal_keeps m.main m.local m.state t n f (ap (λ (z : Outcome Cycled). z.answer) (sym o))) in
-      at_once e (zero-lt-suc budget, again t (C.Refused t n f) o e)
+  one_turn (C.Refused t r) o rest =
+      let e = same_place t (C.Refused t r) o (law.refusal_keeps m.main m.local m.state t r (ap (λ (z : Outcome Cycled). z.answer) (sym o))) in
+      at_once e (zero-lt-suc budget, again t (C.Refused t r) o e)
 
 -- "its state and storage are those after that many": every run is that many single cycles, and its ending
 pub done : {store : List ℕ} {cycle : Cycle} → Lawful store cycle → (budget k : ℕ) (m : Machine) → DoneBy cycle budget k m (run_from budget k cycle m)

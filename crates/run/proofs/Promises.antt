@@ -1,21 +1,25 @@
 -- When a run is refused at once, and that no second answer fits. Assumes nothing.
-use Prim.Native.Nat.{ℕ, zero, suc, ◌<◌, ◌≤◌}
+use Prim.Native.Nat.{ℕ, ◌<◌, ◌≤◌}
 use mathlib.Core.Path.{◌≡◌, refl, sym, ap, subst, ◌∙◌}
 use mathlib.Core.List.{List}
 use mathlib.Core.Bool.{Bool, true, false}
 use mathlib.Core.Logic.{◌⊎◌, inl, inr, ◌↔◌}
 use native.Mathlib.Omega.{arith}
+use borrow.Author.Rules.{rules}
 use borrow.Author.Tests.{le-ltb}
 use lib.ListN.{length}
-use Rattle.digits.specs.Refusal.{Check, first, Given}
+use Rattle.std.specs.Prelude.{Option, Some, None}
+use Rattle.digits.specs.Refusal.{Check, first, Given, refusal_number, refusal_field}
 use Rattle.digits.specs.Sizes.{sizes_wrong}
-use Rattle.digits.proofs.Refusals.{None, none_first, first_none, given_first, first_given, first_lt}
+use Rattle.digits.specs.declared.refusal.Refusal.{Refusal}
+use Rattle.digits.specs.declared.refusal.Refusal.TheVariants as R
+use Rattle.digits.proofs.Refusals.{NoneHolds, none_first, first_none, given_first, first_given, first_is, some_not_none}
 use Rattle.digits.proofs.Sole.{sole}
 use Rattle.digits.proofs.Truth.{zero_one}
-use Rattle.machine.specs.Cycle.{Outcome, outcome, refusal_number}
+use Rattle.machine.specs.Cycle.{Outcome, outcome, refusal_in}
 use Rattle.machine.specs.declared.State.{State}
 use Rattle.machine.specs.declared.Cycled.{Cycled}
-use Rattle.run.specs.Run.{Cycle, ended, cycles_of, run_checks, run_by, run_over, run_in, ending_number}
+use Rattle.run.specs.Run.{Cycle, ended, cycles_of, run_checks, run_by, run_over, run_in, refusal_by}
 use Rattle.run.specs.declared.Ending.{Ending}
 use Rattle.run.specs.declared.Ending.TheVariants.{Stopped, Refused, Spent}
 use Rattle.run.specs.declared.Finished.{Finished}
@@ -28,24 +32,22 @@ use Rattle.run.proofs.one.Reads as one
 
 -- 1 and 22: given by the list, nothing is done; given by none, the cycles begin
 module _ (cycle : Cycle) (budget : ℕ) (store main local : List ℕ) (s : State) where
-  pub run_refused : (n : ℕ) → Given (suc n) (run_checks (length store) (length main) (length local) budget) → ended (Refused (suc n) 0) s 0 main local ≡ run_over cycle budget store main local s
-  run_refused n g =
-      let e = given_first (run_checks (length store) (length main) (length local) budget) (suc n) g in
-      refused_at_once cycle budget store main local s (suc n) (sym e) (λ z. omega arith)
+  pub run_refused : (r : Refusal) → Given r (run_checks (length store) (length main) (length local) budget) → ended (Refused r) s 0 main local ≡ run_over cycle budget store main local s
+  run_refused r g = refused_at_once cycle budget store main local s r (given_first (run_checks (length store) (length main) (length local) budget) r g)
 
-  pub run_begins : None (run_checks (length store) (length main) (length local) budget) → cycles_of budget cycle main local s 0 ≡ run_over cycle budget store main local s
-  run_begins g = begins cycle budget store main local s _ refl (none_first (run_checks (length store) (length main) (length local) budget) g)
+  pub run_begins : NoneHolds (run_checks (length store) (length main) (length local) budget) → cycles_of budget cycle main local s 0 ≡ run_over cycle budget store main local s
+  run_begins g = begins cycle budget store main local s (none_first (run_checks (length store) (length main) (length local) budget) g)
 
 -- the run from a machine on, and the answer that is 1
 abbrev pub run_at : Cycle → ℕ → List ℕ → Machine → Outcome Finished
 run_at cycle budget store m = run_over cycle budget store m.main m.local m.state
 
 abbrev pub refused_by1 : Machine → Outcome Finished
-refused_by1 m = ended (Refused 1 0) m.state 0 m.main m.local
+refused_by1 m = ended (Refused R.Size) m.state 0 m.main m.local
 
 module _ (cycle : Cycle) (store : List ℕ) (m : Machine) where
   pub wrong_refused : Wrong store m → (budget : ℕ) → refused_by1 m ≡ run_at cycle budget store m
-  wrong_refused wrong budget = refused_at_once cycle budget store m.main m.local m.state 1 (rw wrong) (λ z. omega arith)
+  wrong_refused wrong budget = refused_at_once cycle budget store m.main m.local m.state R.Size (rw wrong)
 
   pub right_begins : Right store m → (budget : ℕ) → budget ≤ 1000000 → run_from budget 0 cycle m ≡ run_at cycle budget store m
   right_begins right budget most = run_begins cycle budget store m.main m.local m.state (right, (le-ltb 1000000 budget most, tt))
@@ -64,33 +66,34 @@ module _ (cycle : Cycle) (store : List ℕ) (m : Machine) where
 ends_within : (cycle : Cycle) (budget n : ℕ) (ending : Ending) (x : Machine) → Ends cycle budget n ending x → n ≤ budget
 ends_within cycle budget n Spent x e = omega arith
 ends_within cycle budget n Stopped x (h, a) = omega arith
-ends_within cycle budget n (Refused number field) x (h, a) = omega arith
+ends_within cycle budget n (Refused r) x (h, a) = omega arith
 
 abbrev pub Small : Ending → Type 0
 Small Spent = Unit {0}
 Small Stopped = Unit {0}
-Small (Refused number field) = (number < 256) × (field < 256)
+Small (Refused r) = (refusal_number r < 256) × (refusal_field r < 256)
 
 ending_small : {store : List ℕ} {cycle : Cycle} → Lawful store cycle → (budget k : ℕ) (ending : Ending) (x : Machine) → Ends cycle budget k ending x → Small ending
 ending_small law budget k Spent x e = tt
 ending_small law budget k Stopped x e = tt
-ending_small law budget k (Refused number field) x e =
-    law.refusal_small x.main x.local x.state x.state number field (ap (λ (o : Outcome Cycled). o.answer) (sym e.1))
+ending_small law budget k (Refused r) x e =
+    law.refusal_small x.main x.local x.state x.state r (ap (λ (o : Outcome Cycled). o.answer) (sym e.1))
 
 module _ {store : List ℕ} {cycle : Cycle} (law : Lawful store cycle) (budget : ℕ) (main local : List ℕ) (s : State) where
   abbrev m : Machine
   m = machine s main local
 
-  by_checks : (P : Outcome Finished → Type 0) → ((n : ℕ) → n < 256 → P (ended (Refused n 0) s 0 main local)) → P (run_from budget 0 cycle m) → P (run_over cycle budget store main local s)
+  by_checks : (P : Outcome Finished → Type 0) → ((r : Refusal) → (refusal_number r < 256) × (refusal_field r < 256) → P (ended (Refused r) s 0 main local)) → P (run_from budget 0 cycle m)
+      → P (run_over cycle budget store main local s)
   unfolding run_over
-  by_checks P refused cycles = by (first cs) (first_lt 256 cs (omega arith) tt)
+  by_checks P refused cycles = by (first cs) refl
     where
-      cs : List Check
+      cs : List (Check Refusal)
       cs = run_checks (length store) (length main) (length local) budget
 
-      by : (n : ℕ) → n < 256 → P (run_by n budget cycle main local s)
-      by (suc n) h = refused (suc n) h
-      by zero h = cycles
+      by : (k : Option Refusal) → first cs ≡ k → P (run_by k budget cycle main local s)
+      by (Some r) e = refused r (first_is (λ (q : Refusal). (refusal_number q < 256) × (refusal_field q < 256)) cs (search rules) e)
+      by None e = cycles
 
   -- as many single cycles as it counts, whatever its ending
   pub run_goes : Goes cycle (run_over cycle budget store main local s).answer.count m (standing (run_over cycle budget store main local s))
@@ -123,56 +126,48 @@ module _ {store : List ℕ} {cycle : Cycle} (law : Lawful store cycle) (budget :
   run_small =
       let r : Outcome Finished = run_from budget 0 cycle m in
       let d = done law budget 0 m in
-      by_checks (λ (x : Outcome Finished). Small x.answer.ending) (λ k less. (less, omega arith)) (ending_small law budget d.cycles r.answer.ending (standing r) d.ends)
+      by_checks (λ (x : Outcome Finished). Small x.answer.ending) (λ r small. small) (ending_small law budget d.cycles r.answer.ending (standing r) d.ends)
 
 -- ---- exactly when a run is refused by 1 or 22: no cycle of it gives either
 
 -- 1 or 22
-abbrev AtOnce : ℕ → Type 0
-AtOnce n = (n ≡ 1) ⊎ (n ≡ 22)
+abbrev AtOnce : Refusal → Type 0
+AtOnce r = (r ≡ R.Size) ⊎ (r ≡ R.Budget)
 
-no_cycle : {store : List ℕ} {cycle : Cycle} → Lawful store cycle → (m : Machine) (n : ℕ) → AtOnce n → Right store m → refusal_number (cycle m.main m.local m.state).answer ≡ n → ⊥
-no_cycle law m n (inl one) right e = law.never_1 m right (e ∙ one)
-no_cycle law m n (inr last) right e = law.never_22 m (e ∙ last)
+no_cycle : {store : List ℕ} {cycle : Cycle} → Lawful store cycle → (m : Machine) (r : Refusal) → AtOnce r → Right store m → refusal_in (cycle m.main m.local m.state).answer ≡ Some r → ⊥
+no_cycle law m r (inl one) right e = law.never_1 m right (e ∙ ap Some one)
+no_cycle law m r (inr last) right e = law.never_22 m (e ∙ ap Some last)
 
-not_0 : (n : ℕ) → AtOnce n → 0 ≡ n → ⊥
-not_0 n (inl one) z = omega arith
-not_0 n (inr last) z = omega arith
+no_ending : {store : List ℕ} {cycle : Cycle} → Lawful store cycle → (budget k : ℕ) (r : Refusal) → AtOnce r → (ending : Ending) (x : Machine) → Right store x → Ends cycle budget k ending x → refusal_by ending ≡ Some r → ⊥
+no_ending law budget k r which Spent x right ends e = some_not_none (sym e)
+no_ending law budget k r which Stopped x right ends e = some_not_none (sym e)
+no_ending law budget k r which (Refused q) x right ends e =
+    no_cycle law x r which right (ap (λ (o : Outcome Cycled). refusal_in o.answer) (sym ends.1) ∙ e)
 
-no_ending : {store : List ℕ} {cycle : Cycle} → Lawful store cycle → (budget k n : ℕ) → AtOnce n → (ending : Ending) (x : Machine) → Right store x → Ends cycle budget k ending x → ending_number ending ≡ n → ⊥
-no_ending law budget k n which Spent x right ends e = not_0 n which e
-no_ending law budget k n which Stopped x right ends e = not_0 n which e
-no_ending law budget k n which (Refused number field) x right ends e =
-    no_cycle law x n which right (ap (λ (o : Outcome Cycled). refusal_number o.answer) (sym ends.1) ∙ e)
-
-no_cycles : {store : List ℕ} {cycle : Cycle} → Lawful store cycle → (budget n : ℕ) → AtOnce n → (m : Machine) → Right store m → ending_number (run_from budget 0 cycle m).answer.ending ≡ n → ⊥
-no_cycles {store} {cycle} law budget n which m right e =
-    let r : Outcome Finished = run_from budget 0 cycle m in
+no_cycles : {store : List ℕ} {cycle : Cycle} → Lawful store cycle → (budget : ℕ) (r : Refusal) → AtOnce r → (m : Machine) → Right store m → refusal_by (run_from budget 0 cycle m).answer.ending ≡ Some r → ⊥
+no_cycles {store} {cycle} law budget r which m right e =
+    let x : Outcome Finished = run_from budget 0 cycle m in
     let d = done law budget 0 m in
-    no_ending law budget d.cycles n which r.answer.ending (standing r) (goes_right law d.goes right) d.ends e
+    no_ending law budget d.cycles r which x.answer.ending (standing x) (goes_right law d.goes right) d.ends e
 
-pub run_exactly : {store : List ℕ} {cycle : Cycle} → Lawful store cycle → (budget : ℕ) (main local : List ℕ) (s : State) (n : ℕ) → (n ≡ 1) ⊎ (n ≡ 22)
-    → (ending_number (run_over cycle budget store main local s).answer.ending ≡ n) ↔ Given n (run_checks (length store) (length main) (length local) budget)
+pub run_exactly : {store : List ℕ} {cycle : Cycle} → Lawful store cycle → (budget : ℕ) (main local : List ℕ) (s : State) (r : Refusal) → (r ≡ R.Size) ⊎ (r ≡ R.Budget)
+    → (refusal_by (run_over cycle budget store main local s).answer.ending ≡ Some r) ↔ Given r (run_checks (length store) (length main) (length local) budget)
 unfolding run_over
-run_exactly {store} {cycle} law budget main local s n which = (to (first cs) refl, back)
+run_exactly {store} {cycle} law budget main local s r which = (to (first cs) refl, back)
   where
-    cs : List Check
+    cs : List (Check Refusal)
     cs = run_checks (length store) (length main) (length local) budget
 
-    to : (k : ℕ) → first cs ≡ k → ending_number (run_by k budget cycle main local s).answer.ending ≡ n → Given n cs
-    to zero none e = absurd (no_cycles law budget n which (machine s main local) (first_none cs tt none).0 e)
-    to (suc k) is e = subst (λ (m : ℕ). Given m cs) e (first_given cs k is)
+    to : (k : Option Refusal) → first cs ≡ k → refusal_by (run_by k budget cycle main local s).answer.ending ≡ Some r → Given r cs
+    to None none e = absurd (no_cycles law budget r which (machine s main local) (first_none cs none).0 e)
+    to (Some q) is e = first_given cs (is ∙ e)
 
-    back : Given n cs → ending_number (run_by (first cs) budget cycle main local s).answer.ending ≡ n
-    back g = by (first cs) (given_first cs n g)
-      where
-        by : (k : ℕ) → k ≡ n → ending_number (run_by k budget cycle main local s).answer.ending ≡ n
-        by zero z = absurd (not_0 n which z)
-        by (suc k) z = z
+    back : Given r cs → refusal_by (run_by (first cs) budget cycle main local s).answer.ending ≡ Some r
+    back g = ap (λ (k : Option Refusal). refusal_by (run_by k budget cycle main local s).answer.ending) (given_first cs r g)
 
 -- ---- no second answer fits, nor a second storage. The promise names no correction, so the run by table is the run by rule
 
-pub refusal_sole : (κs : _) (args : _) (r q : ℕ) (x y : _) → refusal.Post κs args r x → refusal.Post κs args q y → r ≡ q
+pub refusal_sole : (κs : _) (args : _) (r q : Option Refusal) (x y : _) → refusal.Post κs args r x → refusal.Post κs args q y → r ≡ q
 refusal_sole κs args r q x y a b = sole a b
 
 pub run_in_sole : (κs : _) (args : _) (r q : Finished) (x y : _) → run_in_reads.Post κs args r x → run_in_reads.Post κs args q y → outcome r x.1.1.1.0.now x.1.1.1.1.0.now ≡ outcome q y.1.1.1.0.now y.1.1.1.1.0.now

@@ -1,10 +1,12 @@
 -- One turn of a run, by what its cycle answered. Assumes nothing.
-use Prim.Native.Nat.{ℕ, zero, suc, ◌+◌, ◌-◌, ◌<◌}
+use Prim.Native.Nat.{ℕ, suc, ◌+◌, ◌-◌, ◌<◌}
 use mathlib.Core.Path.{◌≡◌, refl, sym, ap, ◌∙◌}
 use mathlib.Core.List.{List}
 use native.Mathlib.Omega.{arith}
 use lib.ListN.{length}
+use Rattle.std.specs.Prelude.{Option, Some, None}
 use Rattle.digits.specs.Refusal.{first}
+use Rattle.digits.specs.declared.refusal.Refusal.{Refusal}
 use Rattle.machine.specs.Cycle.{Outcome, outcome}
 use Rattle.machine.specs.declared.State.{State}
 use Rattle.machine.specs.declared.Cycled.{Cycled}
@@ -34,16 +36,12 @@ on_answer b d cycle main local m l s r x less o e =
 
 -- a run that is refused at once, and one that is not
 module _ (cycle : Cycle) (budget : ℕ) (store main local : List ℕ) (s : State) where
-  pub refused_at_once : (n : ℕ) → n ≡ first (run_checks (length store) (length main) (length local) budget) → (n ≡ 0 → ⊥)
-      → ended (Refused n 0) s 0 main local ≡ run_over cycle budget store main local s
+  pub refused_at_once : (r : Refusal) → first (run_checks (length store) (length main) (length local) budget) ≡ Some r
+      → ended (Refused r) s 0 main local ≡ run_over cycle budget store main local s
   unfolding run_over
-  refused_at_once n e z = by n z ∙ ap (λ (k : ℕ). run_by k budget cycle main local s) e
-    where
-      by : (k : ℕ) → (k ≡ 0 → ⊥) → ended (Refused k 0) s 0 main local ≡ run_by k budget cycle main local s
-      by zero z = absurd (z refl)
-      by (suc k) z = refl
+  refused_at_once r e = sym (ap (λ (k : Option Refusal). run_by k budget cycle main local s) e)
 
-  pub begins : (n : ℕ) → n ≡ first (run_checks (length store) (length main) (length local) budget) → n ≡ 0
+  pub begins : first (run_checks (length store) (length main) (length local) budget) ≡ None
       → cycles_of budget cycle main local s 0 ≡ run_over cycle budget store main local s
   unfolding run_over
-  begins n e z = ap (λ (k : ℕ). run_by k budget cycle main local s) (sym z ∙ e)
+  begins e = sym (ap (λ (k : Option Refusal). run_by k budget cycle main local s) e)

@@ -6,7 +6,9 @@ use mathlib.Core.Bool.{Bool}
 use native.Mathlib.Omega.{arith}
 use borrow.Author.Tests.{ne_eqb}
 use lib.ListN.{length}
+use Rattle.std.specs.Prelude.{Option, Some, None}
 use Rattle.digits.specs.Refusal.{first}
+use Rattle.digits.specs.declared.refusal.Refusal.{Refusal}
 use Rattle.codes.specs.declared.Reading.{Reading}
 use Rattle.storage.specs.declared.Fence.{Fence}
 use Rattle.machine.specs.Cycle.{Outcome, cycle_in}
@@ -34,7 +36,7 @@ module _ (carry invalid : Bool) where
         let d = done (lawful fence reading store) budget 1 (machine t main local) in
         with_some (cycles_of budget (cycle_in fence reading store) main local t 1) d.cycles d.counted
     first_unread budget (C.Stopped t) main local = refl
-    first_unread budget (C.Refused t number field) main local = refl
+    first_unread budget (C.Refused t r) main local = refl
 
     cycles_unread : (budget : ℕ) (main local : List ℕ) (s : State)
         → run_with carry invalid (cycles_of budget (cycle_in fence reading store) main local s 0) ≡ cycles_of budget (cycle_in fence reading store) main local (with_lamps carry invalid s) 0
@@ -46,12 +48,12 @@ module _ (carry invalid : Bool) where
         ∙ sym (turn budget (cycle_in fence reading store) main local (with_lamps carry invalid s) 0 _ _ _ (cycle_unread fence reading store main local s carry invalid o refl))
 
     -- 1 and 22 read no state
-    by_number : (n budget : ℕ) (main local : List ℕ) (s : State)
-        → run_with carry invalid (run_by n budget (cycle_in fence reading store) main local s) ≡ run_by n budget (cycle_in fence reading store) main local (with_lamps carry invalid s)
-    by_number (suc n) budget main local s = refl
-    by_number zero budget main local s = cycles_unread budget main local s
+    by_refusal : (k : Option Refusal) (budget : ℕ) (main local : List ℕ) (s : State)
+        → run_with carry invalid (run_by k budget (cycle_in fence reading store) main local s) ≡ run_by k budget (cycle_in fence reading store) main local (with_lamps carry invalid s)
+    by_refusal (Some r) budget main local s = refl
+    by_refusal None budget main local s = cycles_unread budget main local s
 
 pub run_unread : RunUnread
 unfolding run_over
 run_unread fence reading budget store main local s carry invalid r e =
-    ap (run_with carry invalid) e ∙ by_number carry invalid fence reading store (first (run_checks (length store) (length main) (length local) budget)) budget main local s
+    ap (run_with carry invalid) e ∙ by_refusal carry invalid fence reading store (first (run_checks (length store) (length main) (length local) budget)) budget main local s

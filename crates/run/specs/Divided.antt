@@ -19,7 +19,7 @@ pub record Divided (b : ℕ) (first second whole : Outcome Finished) : Type 0 wh
   pub count : first.answer.count + second.answer.count ≡ whole.answer.count
   -- "with the second run's answer, or the first's where the second budget is 0"
   pub ending : cond (eqb b 0) first.answer.ending second.answer.ending ≡ whole.answer.ending
-  -- a first run that stopped or was refused ends so again: at the same word, by the same number and field, after no cycle
+  -- a first run that stopped or was refused ends so again: at the same word, by the same refusal, after no cycle
   pub again : (first.answer.ending ≡ Spent → ⊥) → (b ≡ 0 → ⊥) → second ≡ ended first.answer.ending first.answer.state 0 first.main first.local
 
 -- "over every store and state .. a run of one budget followed by another from where it ended equals a run of their total, when the total is

@@ -1,7 +1,9 @@
 -- "A run checks 1, 22, then cycles until stop, refusal or budget, and returns how many cycles ran." Assumes nothing.
-use Rattle.std.specs.Prelude.{ℕ, zero, suc, ◌+◌, List, [], ◌∷◌, ltb, length}
+use Rattle.std.specs.Prelude.{ℕ, zero, suc, ◌+◌, List, [], ◌∷◌, ltb, length, Option, Some, None}
 use Rattle.digits.specs.Refusal.{Check, first}
 use Rattle.digits.specs.Sizes.{sizes_wrong}
+use Rattle.digits.specs.declared.refusal.Refusal.{Refusal}
+use Rattle.digits.specs.declared.refusal.Refusal.TheVariants as R
 use Rattle.codes.specs.declared.Reading.{Reading}
 use Rattle.storage.specs.Storage.{whole}
 use Rattle.storage.specs.declared.Fence.{Fence}
@@ -25,7 +27,7 @@ ended ending state count main local = outcome (record { ending = ending; state =
 abbrev pub onward : (List ℕ → List ℕ → State → ℕ → Outcome Finished) → Cycled → List ℕ → List ℕ → ℕ → Outcome Finished
 onward rest (C.Ran t) main local n = rest main local t (n + 1)
 onward rest (C.Stopped t) main local n = ended Stopped t n main local
-onward rest (C.Refused t number field) main local n = ended (Refused number field) t n main local
+onward rest (C.Refused t refusal) main local n = ended (Refused refusal) t n main local
 
 -- "Once that many cycles have run the answer is budget spent, even before a word that would stop or be refused; so budget 0 runs none."
 unfoldable pub cycles_of : ℕ → Cycle → List ℕ → List ℕ → State → ℕ → Outcome Finished
@@ -35,12 +37,12 @@ cycles_of (suc budget) cycle main local s n =
     onward (cycles_of budget cycle) o.answer o.main o.local n
 
 -- 1, then 22: "budget over 1,000,000"
-abbrev pub run_checks : ℕ → ℕ → ℕ → ℕ → List Check
-run_checks store main local budget = (1, sizes_wrong store main local) ∷ (22, ltb 1000000 budget) ∷ []
+abbrev pub run_checks : ℕ → ℕ → ℕ → ℕ → List (Check Refusal)
+run_checks store main local budget = (R.Size, sizes_wrong store main local) ∷ (R.Budget, ltb 1000000 budget) ∷ []
 
-abbrev pub run_by : ℕ → ℕ → Cycle → List ℕ → List ℕ → State → Outcome Finished
-run_by (suc number) budget cycle main local s = ended (Refused (suc number) 0) s 0 main local
-run_by zero budget cycle main local s = cycles_of budget cycle main local s 0
+abbrev pub run_by : Option Refusal → ℕ → Cycle → List ℕ → List ℕ → State → Outcome Finished
+run_by (Some refusal) budget cycle main local s = ended (Refused refusal) s 0 main local
+run_by None budget cycle main local s = cycles_of budget cycle main local s 0
 
 -- a run of any cycle over a store
 unfoldable pub run_over : Cycle → ℕ → List ℕ → List ℕ → List ℕ → State → Outcome Finished
@@ -54,14 +56,14 @@ run_in budget fence reading store main local s = run_over (cycle_in fence readin
 abbrev pub run_of : ℕ → Reading → List ℕ → List ℕ → List ℕ → State → Outcome Finished
 run_of budget reading store main local s = run_in budget whole reading store main local s
 
--- the paper's number of each ending, 0 where it does not refuse
-abbrev pub ending_number : Ending → ℕ
-ending_number Stopped = 0
-ending_number (Refused number field) = number
-ending_number Spent = 0
+-- the refusal of each ending, none where it does not refuse
+abbrev pub refusal_by : Ending → Option Refusal
+refusal_by Stopped = None
+refusal_by (Refused refusal) = Some refusal
+refusal_by Spent = None
 
 -- the answer of a cycle, from a run of one
 abbrev pub cycle_by : Ending → State → Cycled
 cycle_by Spent s = C.Ran s
 cycle_by Stopped s = C.Stopped s
-cycle_by (Refused number field) s = C.Refused s number field
+cycle_by (Refused refusal) s = C.Refused s refusal

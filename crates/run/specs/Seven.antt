@@ -6,7 +6,7 @@ use Rattle.storage.specs.declared.Fence.{Fence}
 use Rattle.machine.specs.declared.State.{State}
 use Rattle.run.specs.Run.{run_in}
 
--- its ending with a refusal's number and 10's field, its state, its count and both storages, whatever the budget
+-- its ending with a refusal and 10's field, its state, its count and both storages, whatever the budget
 abbrev pub RunAlike : Type 0
 RunAlike =
     (budget : ℕ) (fence : Fence) (store main local : List ℕ) (s : State)

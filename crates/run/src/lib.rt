@@ -7,13 +7,15 @@ ghost use Rattle.digits.specs.Refusal.{first};
 ghost use Rattle.machine.specs.Cycle.{outcome, cycle_in};
 
 use codes::Reading;
+use digits::Refusal;
 use machine::{Cycled, State};
 use storage::Fence;
 
+// A run stops, is refused, or has spent its budget: three ways, so no Result.
 #[derive(Clone, Copy)]
 pub enum Ending {
     Stopped,
-    Refused(u8, u8),
+    Refused(Refusal),
     Spent,
 }
 
@@ -29,12 +31,14 @@ fn ended(ending: Ending, state: State, count: u32) -> Finished
     ensures { result ≡ record { ending = ending; state = state; count = count } }
 {
     Finished {
-        ending: ending,
-        state: state,
-        count: count,
+        ending,
+        state,
+        count,
     }
 }
 
+// So many cycles, and how they end. The loop counts by itself: that it yields by `break` is a rule of the project (docs/DECISIONS.md,
+// "Language forms by place"), and a `for` yields nothing.
 fn cycles(
     fence: Fence,
     reading: Reading,
@@ -55,27 +59,30 @@ fn cycles(
         match machine::cycle_in(fence, reading, store, main, local, now) {
             Cycled::Ran(next) => {
                 now = next;
-                done = done + 1;
+                done += 1;
             }
             Cycled::Stopped(last) => {
                 break ended(Ending::Stopped, last, done);
             }
-            Cycled::Refused(last, number, field) => {
-                break ended(Ending::Refused(number, field), last, done);
+            Cycled::Refused(last, refusal) => {
+                break ended(Ending::Refused(refusal), last, done);
             }
         }
     }
 }
 
-// 1, 22, or 0.
-pub fn refusal(store: usize, main: usize, local: usize, budget: u32) -> u8
+// 1 or 22.
+pub fn refusal(store: usize, main: usize, local: usize, budget: u32) -> Option<Refusal>
     ensures { result ≡ first (run_checks store main local budget) }
 {
     let wrong = digits::sizes_wrong(store, main, local);
-    digits::first_of(wrong, 1, digits::first_of(1000000 < budget, 22, 0))
+    let long = digits::first_of(1000000 < budget, Some(Refusal::Budget), None);
+    digits::first_of(wrong, Some(Refusal::Size), long)
 }
 
-// A run of a store in a fence and under a reading.
+// A run of a store in a fence and under a reading. Its arguments stay as they are, and those of the others here: what a public function
+// takes may not change.
+#[tactic(auto, unfolding(crate::specs::Run::run_over))]
 pub fn run_in(
     fence: Fence,
     reading: Reading,
@@ -87,9 +94,8 @@ pub fn run_in(
 ) -> Finished
     ensures { outcome result main.new local.new ≡ run_in budget fence reading store.now main.old local.old state }
 {
-    let number = refusal(store.len(), main.len(), local.len(), budget);
-    if number != 0 {
-        return ended(Ending::Refused(number, 0), state, 0);
+    if let Some(refusal) = refusal(store.len(), main.len(), local.len(), budget) {
+        return ended(Ending::Refused(refusal), state, 0);
     }
     cycles(fence, reading, store, main, local, state, budget)
 }
@@ -105,22 +111,17 @@ pub fn run(
 ) -> Finished
     ensures { outcome result main.new local.new ≡ run_of budget reading store.now main.old local.old state }
 {
-    let whole = Fence {
-        start: 0,
-        end: 65536,
-    };
-    run_in(whole, reading, store, main, local, state, budget)
+    run_in(Fence::whole(), reading, store, main, local, state, budget)
 }
 
 // What a run of one answered, as a cycle.
 fn as_cycle(f: Finished) -> Cycled
     ensures { result ≡ cycle_by f.ending f.state }
 {
-    let ending = f.ending;
-    let state = f.state;
+    let Finished { ending, state, .. } = f;
     match ending {
         Ending::Stopped => Cycled::Stopped(state),
-        Ending::Refused(number, field) => Cycled::Refused(state, number, field),
+        Ending::Refused(refusal) => Cycled::Refused(state, refusal),
         Ending::Spent => Cycled::Ran(state),
     }
 }

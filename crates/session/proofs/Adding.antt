@@ -5,9 +5,12 @@ use mathlib.Core.List.{List, [], ◌∷◌}
 use mathlib.Core.Bool.{Bool, true, false}
 use native.Mathlib.Omega.{arith}
 use lib.ListN.{length, replicate}
+use Rattle.std.specs.Prelude.{Ok, None}
 use Rattle.digits.specs.Refusal.{Check, first}
 use Rattle.digits.specs.Sizes.{storage_wrong}
-use Rattle.digits.proofs.Refusals.{first_none}
+use Rattle.digits.specs.declared.refusal.Refusal.{Refusal}
+use Rattle.digits.specs.declared.refusal.Refusal.TheVariants as R
+use Rattle.digits.proofs.Refusals.{first_none, given_none, result_tells}
 use Rattle.codes.specs.declared.Reading.{Reading}
 use Rattle.codes.specs.declared.Reading.TheVariants.{Basic}
 use Rattle.storage.specs.Storage.{bytes_in}
@@ -27,7 +30,7 @@ use Rattle.decimal.specs.declared.Added.{Added}
 use Rattle.decimal.specs.declared.Added.TheVariants as D
 use Rattle.decimal.proofs.Checks.{Fit, checked}
 use Rattle.decimal.proofs.Kept.{accepts, promised, count_in_lem}
-use Rattle.session.specs.Opening.{fence_wrong, fences_wrong, open_checks}
+use Rattle.session.specs.Opening.{fence_wrong, fences_wrong, open_checks, open_of}
 use Rattle.session.specs.Turn.{state_in}
 use Rattle.session.specs.Boards.{Own, own, Session, other, fence_of, own_of, with, Turned, turned_to, turned_of}
 use Rattle.session.specs.Isolation.{same, Shown, shown_by, all_shown, turns_alone}
@@ -40,17 +43,17 @@ use Rattle.session.proofs.Isolation.{own_with, main_with, isolated}
 -- ---- the entry
 
 module _ (fence : Fence) (main local : List ℕ) (a b n : ℕ) (carry : Bool) where
-  abbrev checks : List Check
+  abbrev checks : List (Check Refusal)
   checks = fenced_add_checks fence (length main) (length local) a b n
 
   abbrev by_tests : Bool → Bool → Outcome Added
-  by_tests sizes wrong = entry_by SUMMED ((1, sizes) ∷ (32, wrong) ∷ field_checks fence (length main) a b n) (run_for fence main local a b n carry) main local
+  by_tests sizes wrong = entry_by SUMMED ((R.Size, sizes) ∷ (R.Fence, wrong) ∷ field_checks fence (length main) a b n) (run_for fence main local a b n carry) main local
 
-  pub on_1 : storage_wrong (length main) (length local) ≡ true → outcome (D.Refused 1) main local ≡ fenced_add fence main local a b n carry
+  pub on_1 : storage_wrong (length main) (length local) ≡ true → outcome (D.Refused R.Size) main local ≡ fenced_add fence main local a b n carry
   unfolding fenced_add
   on_1 e = ap (λ (sizes : Bool). by_tests sizes (fence_wrong (length main) fence)) (sym e)
 
-  pub on_32 : storage_wrong (length main) (length local) ≡ false → fence_wrong (length main) fence ≡ true → outcome (D.Refused 32) main local ≡ fenced_add fence main local a b n carry
+  pub on_32 : storage_wrong (length main) (length local) ≡ false → fence_wrong (length main) fence ≡ true → outcome (D.Refused R.Fence) main local ≡ fenced_add fence main local a b n carry
   unfolding fenced_add
   on_32 e f = λ i. by_tests (sym e i) (sym f i)
 
@@ -59,13 +62,13 @@ module _ (fence : Fence) (main local : List ℕ) (a b n : ℕ) (carry : Bool) wh
   unfolding fenced_add add_in
   on_right f = ap (by_tests (storage_wrong (length main) (length local))) (sym f)
 
-  fit : first checks ≡ 0 → Fit fence (length main) (length local) a b n
-  fit e = let none = first_none checks tt e in checked fence (length main) (length local) a b n none.0 none.1.1
+  fit : first checks ≡ None → Fit fence (length main) (length local) a b n
+  fit e = let none = first_none checks e in checked fence (length main) (length local) a b n none.0 none.1.1
 
   pub with_promise : (r : Added) (m l : List ℕ) → outcome r m l ≡ fenced_add fence main local a b n carry
       → (outcome r m l ≡ fenced_add fence main local a b n carry) × PromiseIn fence main local a b n carry r m l
   unfolding fenced_add
-  with_promise r m l e = (e, promised checks tt fence main local a b n carry fit r m l e)
+  with_promise r m l e = (e, promised checks fence main local a b n carry fit r m l e)
 
 -- ---- a board that goes to a stop alone does so in a session
 
@@ -149,10 +152,13 @@ module _ (x : Board) (a b : Fence) (reading : Reading) (store : List ℕ) where
       let v : Session = with x (own y.state y.local) y.main w in
       ap (last_of d) (shown_more k w _ (a_turn w m y r at l)) ∙ comes k v (shown_by x a b (turned_to r v)) (at_next w m y r refl at l) g h (omega arith)
 
+opened : (main : ℕ) (a b : Fence) → open_of main a b ≡ Ok tt → fences_wrong main a b ≡ false
+opened main a b e = (given_none result_tells tt tt (λ p. refl) (open_checks main a b) e).0.0
+
 -- right fences are right for either board
-right_for : (x : Board) (a b : Fence) (main : ℕ) → first (open_checks main a b) ≡ 0 → fences_wrong main (fence_of x a b) (fence_of (other x) a b) ≡ false
-right_for A a b main e = (first_none (open_checks main a b) tt e).0
-right_for B a b main e = turned_round main a b (first_none (open_checks main a b) tt e).0
+right_for : (x : Board) (a b : Fence) (main : ℕ) → open_of main a b ≡ Ok tt → fences_wrong main (fence_of x a b) (fence_of (other x) a b) ≡ false
+right_for A a b main e = opened main a b e
+right_for B a b main e = turned_round main a b (opened main a b e)
 
 pub stops_in_session : StopsInSession
 stops_in_session x turns a b reading store w budget n t main local d opened e less =
@@ -173,7 +179,7 @@ adds_in_session x turns fence-a fence-b w a b n carry d opened begins accepted l
     let fence : Fence = fence_of x fence-a fence-b in
     let mine : Own = own_of x w in
     let r : Outcome Finished = run_for fence w.main mine.local a b n carry in
-    let is = accepts SUMMED (checks fence w.main mine.local a b n carry) tt r w.main mine.local n accepted in
+    let is = accepts SUMMED (checks fence w.main mine.local a b n carry) r w.main mine.local n accepted in
     let p = (with_promise fence w.main mine.local a b n carry _ _ _ is).1 in
     let count : cycles_in (answered_at SUMMED r.answer) ≡ r.answer.count = count_in_lem SUMMED r.answer in
     let ran = ap (λ (o : Outcome Added). cycles_in o.answer) is in

@@ -10,14 +10,14 @@ use Rattle.digits.proofs.Truth.{true_not_false}
 use Rattle.codes.specs.declared.Reading.{Reading}
 use Rattle.storage.specs.Storage.{Beyond, bytes_in}
 use Rattle.storage.specs.declared.Fence.{Fence}
-use Rattle.machine.specs.Cycle.{Outcome, outcome}
+use Rattle.machine.specs.Cycle.{Outcome}
 use Rattle.machine.specs.Fenced.{SameIn, AlikeIn}
 use Rattle.machine.specs.declared.State.{State}
 use Rattle.machine.specs.declared.Cycled.{Cycled}
 use Rattle.machine.specs.declared.Cycled.TheVariants as C
 use Rattle.machine.proofs.Promises.{Kept}
 use Rattle.session.specs.Turn.{turn_of, state_in}
-use Rattle.session.specs.Boards.{Own, own, Session, other, fence_of, own_of, with, Turned, turned_to, turned_of, after_turns}
+use Rattle.session.specs.Boards.{Own, own, Session, other, fence_of, own_of, with, Turned, turned_of, after_turns}
 use Rattle.session.specs.Isolation.{Shown, shown_by, all_shown, turns_alone, Isolated, IsolatedInTheEnd, TurnKeeps, is_ran, IdleKeeps, AnswerStays, NeitherChanges}
 use Rattle.session.specs.declared.Board.{Board}
 use Rattle.session.specs.declared.Board.TheVariants.{A, B}
@@ -45,16 +45,6 @@ others B mine main w = refl
 round : (x : Board) (a b : Fence) → fence_of (other (other x)) a b ≡ fence_of x a b
 round A a b = refl
 round B a b = refl
-
--- the turn of the board that is named, put together
-pub named : (x board : Board) (a b : Fence) (reading : Reading) (store : List ℕ) (w : Session) (r : Cycled) (t : State) (m l : List ℕ) → board ≡ x
-    → outcome r m l ≡ turn_of (fence_of x a b) (fence_of (other x) a b) reading store w.main (own_of x w).local (own_of x w).state → t ≡ state_in r
-    → turned_to r (with x (own t l) m w) ≡ turned_of board a b reading store w
-unfolding turned_of
-named x board a b reading store w r t m l e o s =
-    (λ i. turned_to r (with x (own (s i) l) m w))
-    ∙ ap (λ (z : Outcome Cycled). turned_to z.answer (with x (own (state_in z.answer) z.local) z.main w)) o
-    ∙ ap (λ (y : Board). turned_of y a b reading store w) (sym e)
 
 -- the same bytes as a list
 same_bytes : (fence : Fence) (m k : List ℕ) → SameIn fence m k → bytes_in fence m ≡ bytes_in fence k
@@ -185,7 +175,7 @@ idle_keeps x a b reading store w = by o.answer refl
     by : (r : Cycled) → o.answer ≡ r → is_ran o.answer ≡ false → (turned_of x a b reading store w).after ≡ w
     by (C.Ran t) e idle = absurd (true_not_false (ap is_ran e) idle)
     by (C.Stopped t) e idle = kept (turn_stops (fence_of x a b) (fence_of (other x) a b) reading store w.main mine.local mine.state t e) (ap state_in e)
-    by (C.Refused t n g) e idle = kept (turn_refuses (fence_of x a b) (fence_of (other x) a b) reading store w.main mine.local mine.state t n g e) (ap state_in e)
+    by (C.Refused t why) e idle = kept (turn_refuses (fence_of x a b) (fence_of (other x) a b) reading store w.main mine.local mine.state t why e) (ap state_in e)
 
 pub neither_changes : NeitherChanges
 unfolding after_turns

@@ -10,6 +10,8 @@ use lib.Dec.{ltb, leb}
 use lib.ListN.{length, get_or}
 use Rattle.digits.specs.Refusal.{first}
 use Rattle.digits.specs.Sizes.{sizes_wrong}
+use Rattle.digits.specs.declared.refusal.Refusal.{Refusal}
+use Rattle.digits.specs.declared.refusal.Refusal.TheVariants as R
 use Rattle.digits.proofs.Truth.{zero_one, neither}
 use Rattle.word.specs.Layout.{fields_of}
 use Rattle.word.specs.declared.Fields.{Fields}
@@ -63,31 +65,31 @@ module _ (own other : Fence) (reading : Reading) (store main local : List ℕ) (
   abbrev by_tests : Bool → Bool → Outcome Cycled
   by_tests sizes fences =
       let f : Fields = fields_of (word_at store s) in
-      decided reading (first ((1, sizes) ∷ (32, fences) ∷ next_word_checks own reading store (length main) s)) (stops f) f main local s
+      decided reading (first ((R.Size, sizes) ∷ (R.Fence, fences) ∷ next_word_checks own reading store (length main) s)) (stops f) f main local s
 
   -- past 32 it is the cycle in the board's own fence
   pub turn_is : fences_wrong (length main) own other ≡ false → its_turn ≡ cycle_in own reading store main local s
   unfolding turn_of cycle_in
   turn_is right = ap (by_tests (sizes_wrong (length store) (length main) (length local))) right
 
-  pub turn_1 : sizes_wrong (length store) (length main) (length local) ≡ true → its_turn ≡ outcome (Refused s 1 0) main local
+  pub turn_1 : sizes_wrong (length store) (length main) (length local) ≡ true → its_turn ≡ outcome (Refused s R.Size) main local
   unfolding turn_of
   turn_1 wrong = ap (λ (b : Bool). by_tests b (fences_wrong (length main) own other)) wrong
 
-  pub turn_32 : sizes_wrong (length store) (length main) (length local) ≡ false → fences_wrong (length main) own other ≡ true → its_turn ≡ outcome (Refused s 32 0) main local
+  pub turn_32 : sizes_wrong (length store) (length main) (length local) ≡ false → fences_wrong (length main) own other ≡ true → its_turn ≡ outcome (Refused s R.Fence) main local
   unfolding turn_of
   turn_32 sizes wrong = λ i. by_tests (sizes i) (wrong i)
 
   -- where the fences are wrong nothing is done
-  refused : fences_wrong (length main) own other ≡ true → its_turn ≡ outcome (Refused s (cond (sizes_wrong (length store) (length main) (length local)) 1 32) 0) main local
+  refused : fences_wrong (length main) own other ≡ true → its_turn ≡ outcome (Refused s (cond (sizes_wrong (length store) (length main) (length local)) R.Size R.Fence)) main local
   refused wrong = by (sizes_wrong (length store) (length main) (length local)) refl
     where
-      by : (b : Bool) → sizes_wrong (length store) (length main) (length local) ≡ b → its_turn ≡ outcome (Refused s (cond b 1 32) 0) main local
+      by : (b : Bool) → sizes_wrong (length store) (length main) (length local) ≡ b → its_turn ≡ outcome (Refused s (cond b R.Size R.Fence)) main local
       by true e = turn_1 e
       by false e = turn_32 e wrong
 
   -- so a turn does nothing, or is the cycle
-  by_turn : (P : Outcome Cycled → Type 0) → ((n : ℕ) → P (outcome (Refused s n 0) main local)) → (fences_wrong (length main) own other ≡ false → P (cycle_in own reading store main local s)) → P its_turn
+  by_turn : (P : Outcome Cycled → Type 0) → ((why : Refusal) → P (outcome (Refused s why) main local)) → (fences_wrong (length main) own other ≡ false → P (cycle_in own reading store main local s)) → P its_turn
   by_turn P refuses runs = by (fences_wrong (length main) own other) refl
     where
       by : (b : Bool) → fences_wrong (length main) own other ≡ b → P its_turn
@@ -104,10 +106,10 @@ module _ (own other : Fence) (reading : Reading) (store main local : List ℕ) (
   pub turn_stops : (t : State) → its_turn.answer ≡ C.Stopped t → Kept main local s t its_turn
   turn_stops t = by_turn (λ (o : Outcome Cycled). o.answer ≡ C.Stopped t → Kept main local s t o) (λ n e. absurd (zero_one cc)) (λ right. stop_keeps own reading store main local s t)
 
-  pub turn_refuses : (t : State) (n g : ℕ) → its_turn.answer ≡ Refused t n g → Kept main local s t its_turn
-  turn_refuses t n g =
-      by_turn (λ (o : Outcome Cycled). o.answer ≡ Refused t n g → Kept main local s t o) (λ k e. record { state = cc; in_main = refl; in_local = refl })
-      (λ right. refusal_keeps own reading store main local s t n g)
+  pub turn_refuses : (t : State) (why : Refusal) → its_turn.answer ≡ Refused t why → Kept main local s t its_turn
+  turn_refuses t why =
+      by_turn (λ (o : Outcome Cycled). o.answer ≡ Refused t why → Kept main local s t o) (λ k e. record { state = cc; in_main = refl; in_local = refl })
+      (λ right. refusal_keeps own reading store main local s t why)
 
   -- of the other's fence it changes nothing
   pub turn_spares : (i : ℕ) → Within other i → get_or its_turn.main i 0 ≡ get_or main i 0
@@ -135,7 +137,7 @@ module _ (own other : Fence) (reading : Reading) (store m k local : List ℕ) (s
       by true e =
           let p = refused own other reading store m local s e in
           let q = refused own other reading store k local s (sym size ∙ e) in
-          rw (p, q) (record { answer = ap (λ (n : ℕ). Refused s (cond (sizes_wrong (length store) n (length local)) 1 32) 0) same.size; in_main = same; in_local = refl })
+          rw (p, q) (record { answer = ap (λ (n : ℕ). Refused s (cond (sizes_wrong (length store) n (length local)) R.Size R.Fence)) same.size; in_main = same; in_local = refl })
       by false e =
           let p = turn_is own other reading store m local s e in
           let q = turn_is own other reading store k local s (sym size ∙ e) in

@@ -1,7 +1,9 @@
 -- Demand 3 "with 'inside its fence' for 'inside main storage'". Assumes nothing.
-use Rattle.std.specs.Prelude.{ℕ, ◌<◌, ◌≡◌, List, [], ◌∷◌, Bool, length}
+use Rattle.std.specs.Prelude.{ℕ, ◌<◌, ◌≡◌, List, [], ◌∷◌, Bool, length, Ok, None}
 use Rattle.digits.specs.Refusal.{Check, first}
 use Rattle.digits.specs.Sizes.{storage_wrong}
+use Rattle.digits.specs.declared.refusal.Refusal.{Refusal}
+use Rattle.digits.specs.declared.refusal.Refusal.TheVariants as R
 use Rattle.codes.specs.declared.Reading.{Reading}
 use Rattle.codes.specs.declared.Reading.TheVariants.{Basic}
 use Rattle.storage.specs.Storage.{bytes_in}
@@ -23,8 +25,8 @@ use Rattle.session.specs.declared.Board.{Board}
 -- ---- the entry
 
 -- 1, "then 32 for a fence that is empty or reaches outside, 12, 13 by the fence, 14"
-abbrev pub fenced_add_checks : Fence → ℕ → ℕ → ℕ → ℕ → ℕ → List Check
-fenced_add_checks fence main local a b n = (1, storage_wrong main local) ∷ (32, fence_wrong main fence) ∷ field_checks fence main a b n
+abbrev pub fenced_add_checks : Fence → ℕ → ℕ → ℕ → ℕ → ℕ → List (Check Refusal)
+fenced_add_checks fence main local a b n = (R.Size, storage_wrong main local) ∷ (R.Fence, fence_wrong main fence) ∷ field_checks fence main a b n
 
 unfoldable pub fenced_add : Fence → List ℕ → List ℕ → ℕ → ℕ → ℕ → Bool → Outcome Added
 fenced_add fence main local a b n carry =
@@ -46,7 +48,7 @@ last_of d (s ∷ ss) = last_of s ss
 abbrev pub StopsInSession : Type 0
 StopsInSession =
     (x : Board) (turns : List Board) (a b : Fence) (reading : Reading) (store : List ℕ) (w : Session) (budget n : ℕ) (t : State) (main local : List ℕ) (d : Shown)
-    → open_of (length w.main) a b ≡ 0
+    → open_of (length w.main) a b ≡ Ok tt
     → run_in budget (fence_of x a b) reading store w.main (own_of x w).local (own_of x w).state ≡ ended Stopped t n main local
     → n < length (turns_alone x turns)
     → last_of d (all_shown x turns a b reading store w) ≡ record { answer = C.Stopped t; own = own t local; bytes = bytes_in (fence_of x a b) main }
@@ -65,8 +67,8 @@ abbrev pub AddsInSession : Type 0
 AddsInSession =
     (x : Board) (turns : List Board) (fence-a fence-b : Fence) (w : Session) (a b n : ℕ) (carry : Bool) (d : Shown)
     → let fence : Fence = fence_of x fence-a fence-b in let mine : Own = own_of x w in
-    open_of (length w.main) fence-a fence-b ≡ 0
+    open_of (length w.main) fence-a fence-b ≡ Ok tt
     → mine.state ≡ start a b n carry
-    → first (fenced_add_checks fence (length w.main) (length mine.local) a b n) ≡ 0
+    → first (fenced_add_checks fence (length w.main) (length mine.local) a b n) ≡ None
     → cycles_in (fenced_add fence w.main mine.local a b n carry).answer < length (turns_alone x turns)
     → Adds fence mine w.main a b n carry (last_of d (all_shown x turns fence-a fence-b Basic shipped w))

@@ -65,7 +65,7 @@ TurnKeeps =
 abbrev pub is_ran : Cycled → Bool
 is_ran (Ran t) = true
 is_ran (Stopped t) = false
-is_ran (Refused t number field) = false
+is_ran (Refused t r) = false
 
 abbrev pub IdleKeeps : Type 0
 IdleKeeps =

@@ -10,6 +10,7 @@ ghost use Rattle.session.specs.Adding.{fenced_add, PromiseIn};
 
 use codes::Reading;
 use decimal::Added;
+use digits::Refusal;
 use machine::{Cycled, State};
 use storage::Fence;
 
@@ -32,25 +33,30 @@ pub struct BothAfter {
 fn fence_wrong(main: usize, fence: Fence) -> bool
     ensures { result ≡ fence_wrong main fence }
 {
-    (fence.end <= fence.start) | (main < fence.end)
+    fence.end <= fence.start || main < fence.end
 }
 
 // 32, of two.
 fn fences_wrong(main: usize, a: Fence, b: Fence) -> bool
     ensures { result ≡ fences_wrong main a b }
 {
-    let meet = (a.start < b.end) & (b.start < a.end);
-    fence_wrong(main, a) | (fence_wrong(main, b) | meet)
+    let meet = a.start < b.end && b.start < a.end;
+    fence_wrong(main, a) || fence_wrong(main, b) || meet
 }
 
-// Opens a session of two fences, in main storage of so many bytes: 0, or 32.
-pub fn open(main: usize, a: Fence, b: Fence) -> u8
+// Opens a session of two fences, in main storage of so many bytes, or refuses by 32.
+pub fn open(main: usize, a: Fence, b: Fence) -> Result<(), Refusal>
     ensures { result ≡ open_of main a b }
 {
-    digits::first_of(fences_wrong(main, a, b), 32, 0)
+    if fences_wrong(main, a, b) {
+        return Err(Refusal::Fence);
+    }
+    Ok(())
 }
 
-// One turn of the board whose fence, local storage and state these are, beside a board with the other fence.
+// One turn of the board whose fence, local storage and state these are, beside a board with the other fence. The storages stay
+// parameters, here and below, as include/panel.h has them and as the promises speak of each.
+#[tactic(auto, unfolding(crate::specs::Turn::turn_of, machine::specs::Cycle::cycle_in))]
 pub fn turn(
     own: Fence,
     other: Fence,
@@ -63,10 +69,10 @@ pub fn turn(
     ensures { outcome result main.new local.new ≡ turn_of own other reading store.now main.old local.old state }
 {
     if digits::sizes_wrong(store.len(), main.len(), local.len()) {
-        return Cycled::Refused(state, 1, 0);
+        return Cycled::Refused(state, Refusal::Size);
     }
     if fences_wrong(main.len(), own, other) {
-        return Cycled::Refused(state, 32, 0);
+        return Cycled::Refused(state, Refusal::Fence);
     }
     run::one(own, reading, store, main, local, state)
 }
@@ -75,13 +81,12 @@ fn state_in(answer: Cycled) -> State
     ensures { result ≡ state_in answer }
 {
     match answer {
-        Cycled::Ran(state) => state,
-        Cycled::Stopped(state) => state,
-        Cycled::Refused(state, _, _) => state,
+        Cycled::Ran(state) | Cycled::Stopped(state) | Cycled::Refused(state, _) => state,
     }
 }
 
 // The turn of the board that is named, with both boards' storage lent: the other's is not touched.
+#[tactic(auto, unfolding(crate::specs::Boards::turned_of))]
 pub fn turn_of(
     board: Board,
     a: Fence,
@@ -96,11 +101,12 @@ pub fn turn_of(
 ) -> BothAfter
     ensures { turned_to result.answer (session (own result.a local_a.new) (own result.b local_b.new) main.new) ≡ turned_of board a b reading store.now (session (own state_a local_a.old) (own state_b local_b.old) main.old) }
 {
+    // The arms stay two: the borrow checker does not cover a `&mut` that one match chooses beside the rest, and a match for each is no plainer.
     match board {
         Board::A => {
             let answer = turn(a, b, reading, store, main, local_a, state_a);
             BothAfter {
-                answer: answer,
+                answer,
                 a: state_in(answer),
                 b: state_b,
             }
@@ -108,7 +114,7 @@ pub fn turn_of(
         Board::B => {
             let answer = turn(b, a, reading, store, main, local_b, state_b);
             BothAfter {
-                answer: answer,
+                answer,
                 a: state_a,
                 b: state_in(answer),
             }
@@ -130,10 +136,10 @@ pub fn add(
     ensures promise { PromiseIn fence main.old local.old first second length carry result main.new local.new }
 {
     if digits::storage_wrong(main.len(), local.len()) {
-        return Added::Refused(1);
+        return Added::Refused(Refusal::Size);
     }
     if fence_wrong(main.len(), fence) {
-        return Added::Refused(32);
+        return Added::Refused(Refusal::Fence);
     }
     decimal::add_in(fence, main, local, first, second, length, carry)
 }

@@ -5,6 +5,7 @@ use mathlib.Core.List.{List}
 use native.Mathlib.Omega.{arith}
 use lib.Count.{ones}
 use lib.ListN.{length}
+use Rattle.std.specs.Prelude.{None}
 use Rattle.digits.specs.Refusal.{first}
 use Rattle.digits.proofs.Copies.{over_full}
 use Rattle.word.specs.Word.{packed, in_width}
@@ -36,4 +37,4 @@ readings_fit = (refl, length_deck readings)
 pub written : (words room : List ℕ) → OneBlock words → length room ≡ 512 → deck_after words room ≡ deck_of words
 unfolding OneBlock
 written words room (accepted, one_block) h =
-    sym (write_accepted words room (subst (λ (n : ℕ). first (write_checks words n) ≡ 0) (sym h) accepted)).1 ∙ over_full (deck_of words) room (omega (arith, one_block))
+    sym (write_accepted words room (subst (λ (n : ℕ). first (write_checks words n) ≡ None) (sym h) accepted)).1 ∙ over_full (deck_of words) room (omega (arith, one_block))

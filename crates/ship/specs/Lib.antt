@@ -1,3 +1,4 @@
 pub mod Block
 pub mod Lesson
 pub mod Readings
+pub mod Words

@@ -4,16 +4,12 @@
 
 ghost use Rattle.std.specs.Prelude.{◌≡◌};
 ghost use Rattle.deck.specs.Deck.{deck_of};
-ghost use Rattle.decimal.specs.Program.{shipped};
-ghost use Rattle.apsp.specs.Program.{signed_words};
 ghost use Rattle.ship.specs.Block.{OneBlock};
 ghost use Rattle.ship.specs.Lesson.{lesson};
 ghost use Rattle.ship.specs.Readings.{readings};
+ghost use Rattle.ship.specs.Words.{words_of};
 
-// The descriptors of standard output and standard error.
-const STDOUT_FILENO: i32 = 1;
-
-const STDERR_FILENO: i32 = 2;
+use std::io::Print;
 
 // One block, since the words are at most 62. None of them is refused.
 fn deck_of(words: &[u64]) -> [u8; 512]
@@ -21,20 +17,8 @@ fn deck_of(words: &[u64]) -> [u8; 512]
     ensures { result ≡ deck_of words.now }
 {
     let mut deck = [0u8; 512];
-    deck::write(words, &mut deck);
+    let _ = deck::write(words, &mut deck);
     deck
-}
-
-fn add_deck() -> [u8; 512]
-    ensures { result ≡ deck_of shipped }
-{
-    deck_of(&decimal::words())
-}
-
-fn apsp_deck() -> [u8; 512]
-    ensures { result ≡ deck_of signed_words }
-{
-    deck_of(&apsp::words())
 }
 
 // The shipped words, and the routine behind them: what each word is for stands in specs/Lesson.antt.
@@ -42,16 +26,10 @@ fn lesson() -> [u64; 23]
     ensures { result ≡ lesson }
 {
     let mut words = [0u64; 23];
-    digits::copy_words(&decimal::words(), &mut words);
+    digits::copy(&decimal::words(), &mut words);
     words[21] = 0x0B0812801A6040; // 15
     words[22] = 0x01001D00100001; // 16
     words
-}
-
-fn trap_deck() -> [u8; 512]
-    ensures { result ≡ deck_of lesson }
-{
-    deck_of(&lesson())
 }
 
 // The lesson of the two readings: what each word is for stands in specs/Readings.antt.
@@ -77,54 +55,59 @@ fn readings() -> [u64; 15]
     ]
 }
 
-fn readings_deck() -> [u8; 512]
-    ensures { result ≡ deck_of readings }
-{
-    deck_of(&readings())
+// What is shipped: a program, or a lesson.
+#[derive(Clone, Copy)]
+enum Deck {
+    Add,
+    Apsp,
+    Trap,
+    Readings,
 }
 
-fn tell(line: &[u8]) {
-    io::write_all(STDERR_FILENO, line);
+impl Deck {
+    // By its name.
+    fn named(word: &[u8]) -> Option<Deck> {
+        match word {
+            b"add" => Some(Deck::Add),
+            b"apsp" => Some(Deck::Apsp),
+            b"trap" => Some(Deck::Trap),
+            b"readings" => Some(Deck::Readings),
+            _ => None,
+        }
+    }
+
+    // Its bytes, of its own words.
+    fn bytes(self) -> [u8; 512]
+        ensures { result ≡ deck_of (words_of self) }
+    {
+        match self {
+            Deck::Add => deck_of(&decimal::words()),
+            Deck::Apsp => deck_of(&apsp::words()),
+            Deck::Trap => deck_of(&lesson()),
+            Deck::Readings => deck_of(&readings()),
+        }
+    }
 }
 
-fn write(deck: &[u8]) {
-    if !io::write_all(STDOUT_FILENO, deck) {
-        tell(b"ship: the deck was not written\n");
-    }
-}
-
-fn named(word: &[u8]) {
-    if check::same(word, b"add") {
-        write(&add_deck());
-        return;
-    }
-    if check::same(word, b"apsp") {
-        write(&apsp_deck());
-        return;
-    }
-    if check::same(word, b"trap") {
-        write(&trap_deck());
-        return;
-    }
-    if check::same(word, b"readings") {
-        write(&readings_deck());
-        return;
-    }
-    tell(b"ship: argument 1 is neither add, apsp, trap nor readings\n");
-}
-
-// The decimal add where no program is named.
+// The decimal add where no program is named. A failure is told on standard error, and what cannot be told there is let be.
 fn main(rt: HostRuntime) {
     let count = input::arg_count(&rt);
-    if count < 2 {
-        write(&add_deck());
-        return;
-    }
     if 2 < count {
-        tell(b"ship: argument 2 is one too many\n");
+        let _ = eprintln!(rt; "ship: argument 2 is one too many");
         return;
     }
     let mut word = [0u8; 16];
-    let n = input::arg(&rt, 1, &mut word);
-    named(&word[..n]);
+    let deck = if count < 2 {
+        Some(Deck::Add)
+    } else {
+        let n = input::arg(&rt, 1, &mut word);
+        Deck::named(&word[..n])
+    };
+    let Some(deck) = deck else {
+        let _ = eprintln!(rt; "ship: argument 1 is neither add, apsp, trap nor readings");
+        return;
+    };
+    if rt.write_all(&deck.bytes()).is_err() {
+        let _ = eprintln!(rt; "ship: the deck was not written");
+    }
 }

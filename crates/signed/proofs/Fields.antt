@@ -1,14 +1,15 @@
 -- The places of a field, one after the other. Assumes nothing.
-use Prim.Native.Nat.{ℕ, zero, suc, ◌+◌, ◌-◌, ◌*◌, ◌/◌, ◌%◌, ◌^◌, ◌<◌, ◌≤◌}
-use mathlib.Core.Path.{◌≡◌, refl, ap, ◌∙◌}
+use Prim.Native.Nat.{ℕ, zero, suc, ◌+◌, ◌-◌, ◌*◌, ◌/◌, ◌%◌, ◌^◌, ◌<◌, ◌≤◌, min}
+use mathlib.Core.Path.{◌≡◌, refl, sym, ap, ◌∙◌}
 use mathlib.Core.List.{List, [], ◌∷◌, ◌++◌, append_assoc}
-use native.Mathlib.Nat.{pow-le-pow_right, pow-suc}
+use Rattle.std.proofs.lemmas.List.{length-take}
+use native.Mathlib.Nat.{min_comm, min-eq_right, pow-le-pow_right, pow-suc}
 use native.Mathlib.Numerals.{add-one}
 use native.Mathlib.Omega.{arith}
 use lib.Dec.{lit<}
 use borrow.Author.Tests.{lt-ltb, le-ltb}
-use lib.ListN.{length, get_or, drop, drop_of_length-le, length-append}
-use lib.Seq.{length-take-le, take_all, drop-cons, get_or-take}
+use lib.ListN.{length, get_or, drop, length-append}
+use lib.Seq.{drop-cons, get_or-take}
 use Rattle.digits.specs.Digits.{high, low}
 use Rattle.digits.specs.Packed.{digits_in, in_bytes}
 use Rattle.digits.specs.Tens.{last_digits, tens_from}
@@ -25,11 +26,11 @@ odd field place h =
     let p : place ≡ 2 * (place / 2) + 1 = omega arith in ap (λ (i : ℕ). get_or (digits_in field) i 0) p ∙ low_in field (place / 2)
 
 -- how many of the first fifteen there are
-pub few : (field : List ℕ) → length field < 8 → length (fifteen field) ≡ 2 * length field
-few field h = ap length (take_all 15 (digits_in field) (rw length_digits_in (omega arith))) ∙ length_digits_in field
+pub places : (field : List ℕ) → min (2 * length field) 15 ≡ length (fifteen field)
+places field = min_comm (2 * length field) 15 ∙ sym (length-take 15 (digits_in field) ∙ ap (λ (n : ℕ). min 15 n) (length_digits_in field))
 
 pub all : (field : List ℕ) → 8 ≤ length field → length (fifteen field) ≡ 15
-all field h = length-take-le 15 (digits_in field) (rw length_digits_in (omega arith))
+all field h = sym (places field) ∙ min-eq_right (omega arith)
 
 module _ (field : List ℕ) (place d : ℕ) (h : place < length (fifteen field)) (small : place < 15) (e : d ≡ get_or (digits_in field) place 0) where
   -- what is left of them begins with the digit at its place
@@ -44,14 +45,6 @@ module _ (field : List ℕ) (place d : ℕ) (h : place < length (fifteen field))
 
   pub tens_next : (n : ℕ) → tens_from n (drop place (fifteen field)) ≡ tens_from (n * 10 + d) (drop (place + 1) (fifteen field))
   tens_next n = rw next
-
--- nothing is left
-module _ (field : List ℕ) (place : ℕ) (h : length (fifteen field) ≤ place) where
-  pub over_end : over_nine place (drop place (fifteen field)) ≡ place
-  over_end = rw (drop_of_length-le (fifteen field) {i = place} h)
-
-  pub tens_end : (n : ℕ) → tens_from n (drop place (fifteen field)) ≡ n
-  tens_end n = rw (drop_of_length-le (fifteen field) {i = place} h)
 
 -- what so many digits write, each below 16
 pub bound_next : (place n d : ℕ) → n + 2 ≤ 2 * 10 ^ place → d < 16 → n * 10 + d + 2 ≤ 2 * 10 ^ (place + 1)

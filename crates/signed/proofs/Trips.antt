@@ -15,15 +15,14 @@ use mir.Syntax.{w64}
 use mir.Val.{to_z, of_z}
 use Rattle.digits.specs.Packed.{digits_in, sign_of, is_minus, is_none, preferred, signed, below_zero}
 use Rattle.digits.specs.Tens.{last_digits, tens}
-use Rattle.digits.proofs.Refusals.{Tells, given_none}
+use Rattle.digits.proofs.Refusals.{result_tells, given_none}
 use Rattle.digits.proofs.Table.{Below, each_append, each_into}
 use Rattle.digits.proofs.Truth.{zero_one}
 use Rattle.digits.proofs.Tens.{length_last, last_below, tens_last, tens_lt}
 use Rattle.digits.proofs.Packed.{digits_bytes, bytes_below, preferred_is, size_signed, signed_size, read_back}
 use Rattle.signed.specs.Signed.{fifteen, sign_digit, field_wrong, over_nine, bad_place, read_signed_checks, number_in, read_signed, write_signed_checks, signed_field, field_for, write_signed, field_after}
 use Rattle.signed.specs.Trips.{ReadsBack, KeptSign, WritesBack, Shows, Reached}
-use Rattle.signed.specs.declared.ReadOut.TheVariants as R
-use Rattle.signed.specs.declared.Wrote.TheVariants as W
+use Rattle.std.specs.Prelude.{Ok}
 use Rattle.signed.proofs.Whole.{reads, within}
 use Rattle.signed.proofs.Fields.{all}
 use Rattle.signed.proofs.Answers.{read_number_lem, written}
@@ -52,13 +51,6 @@ fine_digits field eight =
     let fifteen-long = all field (omega arith) in
     let only : ltb (bad_place field) 15 ≡ false → Below 10 (fifteen field) = λ e. none_over 0 (fifteen field) (omega (arith, ltb-false (bad_place field) 15 e, fifteen-long)) in
     (only, λ b. le-ltb (bad_place field) 15 (omega (arith, over_none 0 (fifteen field) b, fifteen-long)))
-
--- a refusal tells its number, and is no number
-pub reading_tells : Tells R.Number R.Refused
-reading_tells = record { number = λ m n e. cc; apart = λ z n e. zero_one cc }
-
-pub writing_tells : Tells (λ (u : Unit {0}). W.Written) W.Refused
-writing_tells = record { number = λ m n e. cc; apart = λ u n e. zero_one cc }
 
 -- ---- a field that is written, and its digits
 
@@ -92,13 +84,13 @@ read_field field eight b = read_back 7 field eight b
 right_length : (field : List ℕ) → field_wrong field ≡ false → length field ≡ 8
 right_length field e = eqb-true (length field) 8 (not-false (eqb (length field) 8) e)
 
-was_written : (number : ℤ) (field : List ℕ) → write_signed number field ≡ W.Written → (length field ≡ 8) × (nat_abs number < 10 ^ 15)
+was_written : (number : ℤ) (field : List ℕ) → write_signed number field ≡ Ok tt → (length field ≡ 8) × (nat_abs number < 10 ^ 15)
 unfolding write_signed
 was_written number field e =
-    let (none, same) = given_none writing_tells tt tt (λ q. refl) (write_signed_checks number field) tt e in
+    let (none, same) = given_none result_tells tt tt (λ q. refl) (write_signed_checks number field) e in
     (right_length field none.0, leb-false (10 ^ 15) (nat_abs number) none.1.0)
 
-shown : (number : ℤ) → nat_abs number < 10 ^ 15 → read_signed (field_for number) ≡ R.Number number
+shown : (number : ℤ) → nat_abs number < 10 ^ 15 → read_signed (field_for number) ≡ Ok number
 shown number h =
     let n = nat_abs number in
     let m = below_zero number in
@@ -108,7 +100,7 @@ shown number h =
     let s = field_sign n (preferred m) p.2 in
     let fine : bad_place f ≡ 15 = ap (over_nine 0) d ∙ over_none 0 (last_digits 15 n) (last_below 15 n) ∙ length_last 15 n in
     let z : number_in f ≡ number = (λ i. signed (is_minus (sign_of (s i))) (tens (d i))) ∙ (λ i. signed (p.0 i) (tens_last 15 n h i)) ∙ signed_size number in
-    sym (read_number_lem f (field_length_lem n (preferred m) p.2) (omega arith) (ap (λ (x : ℕ). is_none (sign_of x)) s ∙ p.1)) ∙ ap R.Number z
+    sym (read_number_lem f (field_length_lem n (preferred m) p.2) (omega arith) (ap (λ (x : ℕ). is_none (sign_of x)) s ∙ p.1)) ∙ ap Ok z
 
 pub reads_back : ReadsBack
 reads_back number field e =
@@ -123,10 +115,10 @@ record Read (field : List ℕ) (number : ℤ) : Type 0 where
   fine : Below 10 (fifteen field)
   is : number_in field ≡ number
 
-was_read : (field : List ℕ) (number : ℤ) → read_signed field ≡ R.Number number → Read field number
+was_read : (field : List ℕ) (number : ℤ) → read_signed field ≡ Ok number → Read field number
 unfolding read_signed
 was_read field number e =
-    let (none, same) = given_none reading_tells (number_in field) number (λ q. cc) (read_signed_checks field) tt e in
+    let (none, same) = given_none result_tells (number_in field) number (λ q. cc) (read_signed_checks field) e in
     let eight = right_length field none.0 in
     record { eight = eight; fine = (fine_digits field eight).0 none.1.0; is = same }
 
@@ -170,7 +162,7 @@ writes_back field number e =
     (sym w.0, (only, always))
 
 -- the machine reads the number that it was given
-pub read_whole : (field : List ℕ) (number : ℤ) → read_signed field ≡ R.Number number → to_z w64 (of_z w64 number) ≡ number
+pub read_whole : (field : List ℕ) (number : ℤ) → read_signed field ≡ Ok number → to_z w64 (of_z w64 number) ≡ number
 read_whole field number e = let h = read_small field number (was_read field number e) in reads number (within number (omega arith))
 
 field_bytes_lem : (size sign : ℕ) → sign < 16 → Below 256 (signed_field size sign)

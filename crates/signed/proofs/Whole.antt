@@ -1,15 +1,14 @@
 -- Whole numbers of 64 bits: their sizes and their negations, exact around zero and at the limits. Assumes nothing.
 use Prim.Native.Nat.{ℕ, zero, suc, ◌-◌, ◌≤◌, ◌<◌, ◌^◌, min}
 use mathlib.Core.Path.{◌≡◌, refl, ap, ◌∙◌}
-use mathlib.Core.Bool.{Bool, true, false}
+use mathlib.Core.Bool.{Bool, true}
 use native.Mathlib.Nat.{min-eq_left}
 use native.Mathlib.Omega.{arith}
-use lib.Dec.{T}
 use lib.IntN.{ℤ, pos, negsuc, neg_ℤ, suc_ℤ, nat_abs, ◌+ℤ◌, ◌-ℤ◌, +ℤ_idl, +ℤ_one}
-use lib.Signed.{lt_z, non_neg}
+use lib.Signed.{lt_z}
 use borrow.Author.Tests.{le-ltb}
 use mir.Syntax.{w64}
-use mir.Val.{Fits, SFits, to_z, of_z}
+use mir.Val.{SFits, to_z, of_z}
 use mir.ValLaws.{to_z-of_z}
 use Rattle.digits.specs.Packed.{signed, below_zero}
 use Rattle.digits.proofs.Truth.{true_not_false}
@@ -35,21 +34,11 @@ pub within : (z : ℤ) → nat_abs z ≤ greatest → SFits w64 z
 within (pos n) h = record { sfits = omega arith }
 within (negsuc n) h = record { sfits = omega arith }
 
-module _ (n : ℕ) (h : n ≤ greatest) where
-  pub reads_size : to_z w64 (of_z w64 (pos n)) ≡ pos n
-  reads_size = reads (pos n) (within (pos n) h)
-
-  pub minus_fits : SFits w64 (pos 0 -ℤ pos n)
-  minus_fits = rw minus_is (within (neg_ℤ (pos n)) (rw (size_signed true n) h))
-
-  pub minus_reads : to_z w64 (of_z w64 (pos 0 -ℤ pos n)) ≡ neg_ℤ (pos n)
-  minus_reads = reads (pos 0 -ℤ pos n) minus_fits ∙ minus_is (pos n)
-
-  -- and what is made of it is read as it was made
-  pub signed_reads : (minus : Bool) → to_z w64 (of_z w64 (signed minus (min n greatest))) ≡ signed minus n
-  signed_reads minus =
-      let e : min n greatest ≡ n = min-eq_left h in
-      rw e (reads (signed minus n) (within (signed minus n) (rw (size_signed minus n) h)))
+-- what is made of a size is read as it was made
+pub signed_reads : (n : ℕ) → n ≤ greatest → (minus : Bool) → to_z w64 (of_z w64 (signed minus (min n greatest))) ≡ signed minus n
+signed_reads n h minus =
+    let e : min n greatest ≡ n = min-eq_left h in
+    rw e (reads (signed minus n) (within (signed minus n) (rw (size_signed minus n) h)))
 
 -- ---- to a size
 
@@ -78,8 +67,3 @@ down (negsuc n) f t =
     back : (n : ℕ) → neg_ℤ (suc_ℤ (negsuc n)) ≡ pos n
     back zero = refl
     back (suc n) = refl
-
--- a number not below zero is its size
-pub not_below : (z : ℤ) → SFits w64 z → lt_z z (pos 0) ≡ false → T (non_neg z) × Fits w64 (nat_abs z)
-not_below (pos n) f t = let h = f.sfits in (tt, record { fits = omega arith })
-not_below (negsuc n) f t = absurd (true_not_false (below_zero_lem (negsuc n)) t)

@@ -1,11 +1,9 @@
 -- Signed read-out: "Fields are 8 bytes, fifteen digits and a sign". Assumes nothing.
-use Rattle.std.specs.Prelude.{ℕ, suc, ◌^◌, List, [], ◌∷◌, Bool, cond, not, eqb, ltb, leb, ℤ, nat_abs, length, take}
+use Rattle.std.specs.Prelude.{ℕ, suc, ◌^◌, List, [], ◌∷◌, Bool, cond, not, eqb, ltb, leb, ℤ, nat_abs, length, take, Result, Ok, Err}
 use Rattle.digits.specs.Refusal.{Check, first, answer}
 use Rattle.digits.specs.Packed.{digits_in, sign_of, is_none, preferred, below_zero, sign_in, signed_in, signed_bytes}
-use Rattle.signed.specs.declared.ReadOut.{ReadOut}
-use Rattle.signed.specs.declared.ReadOut.TheVariants as R
-use Rattle.signed.specs.declared.Wrote.{Wrote}
-use Rattle.signed.specs.declared.Wrote.TheVariants as W
+use Rattle.digits.specs.declared.refusal.Refusal.{Refusal}
+use Rattle.digits.specs.declared.refusal.Refusal.TheVariants as R
 
 -- the greatest "signed 64-bit number"
 abbrev pub greatest : ℕ
@@ -35,16 +33,16 @@ abbrev pub bad_place : List ℕ → ℕ
 bad_place field = over_nine 0 (fifteen field)
 
 -- "33 .., first; then 25 a digit over 9 in the first fifteen places, 26 a sign digit below A"
-abbrev pub read_signed_checks : List ℕ → List Check
-read_signed_checks field = (33, field_wrong field) ∷ (25, ltb (bad_place field) 15) ∷ (26, is_none (sign_of (sign_digit field))) ∷ []
+abbrev pub read_signed_checks : List ℕ → List (Check Refusal)
+read_signed_checks field = (R.SignedLength, field_wrong field) ∷ (R.Digit, ltb (bad_place field) 15) ∷ (R.Sign, is_none (sign_of (sign_digit field))) ∷ []
 
 -- its number
 abbrev pub number_in : List ℕ → ℤ
 number_in field = signed_in 15 field
 
 -- "The read-out gives a signed 64-bit number"
-unfoldable pub read_signed : List ℕ → ReadOut
-read_signed field = answer (first (read_signed_checks field)) R.Refused (R.Number (number_in field))
+unfoldable pub read_signed : List ℕ → Result ℤ Refusal
+read_signed field = answer (first (read_signed_checks field)) Err (Ok (number_in field))
 
 -- ---- writing
 
@@ -53,8 +51,8 @@ abbrev pub too_large : ℤ → Bool
 too_large number = leb (10 ^ 15) (nat_abs number)
 
 -- "in writing, 33 then 27 number too large"
-abbrev pub write_signed_checks : ℤ → List ℕ → List Check
-write_signed_checks number field = (33, field_wrong field) ∷ (27, too_large number) ∷ []
+abbrev pub write_signed_checks : ℤ → List ℕ → List (Check Refusal)
+write_signed_checks number field = (R.SignedLength, field_wrong field) ∷ (R.TooLong, too_large number) ∷ []
 
 -- fifteen digits and a sign digit, two to a byte
 unfoldable pub signed_field : ℕ → ℕ → List ℕ
@@ -64,9 +62,9 @@ signed_field size sign = signed_bytes 15 size sign
 abbrev pub field_for : ℤ → List ℕ
 field_for number = signed_field (nat_abs number) (preferred (below_zero number))
 
-unfoldable pub write_signed : ℤ → List ℕ → Wrote
-write_signed number field = answer (first (write_signed_checks number field)) W.Refused W.Written
+unfoldable pub write_signed : ℤ → List ℕ → Result (Unit {0}) Refusal
+write_signed number field = answer (first (write_signed_checks number field)) Err (Ok tt)
 
 -- "the field unchanged" where it is refused
 unfoldable pub field_after : ℤ → List ℕ → List ℕ
-field_after number field = answer (first (write_signed_checks number field)) (λ n. field) (field_for number)
+field_after number field = answer (first (write_signed_checks number field)) (λ r. field) (field_for number)

@@ -1,13 +1,11 @@
 -- What reading and writing are to each other. Assumes nothing.
-use Rattle.std.specs.Prelude.{ℕ, ◌^◌, ◌<◌, ◌≡◌, List, ◌⊎◌, ◌↔◌, ℤ, pos, nat_abs}
+use Rattle.std.specs.Prelude.{ℕ, ◌^◌, ◌<◌, ◌≡◌, List, ◌⊎◌, ◌↔◌, ℤ, pos, nat_abs, Ok}
 use Rattle.digits.specs.Table.{Each}
 use Rattle.signed.specs.Signed.{sign_digit, read_signed, write_signed, field_after}
-use Rattle.signed.specs.declared.ReadOut.TheVariants as R
-use Rattle.signed.specs.declared.Wrote.TheVariants as W
 
 -- "Reading what was written returns the number."
 abbrev pub ReadsBack : Type 0
-ReadsBack = (number : ℤ) (field : List ℕ) → write_signed number field ≡ W.Written → read_signed (field_after number field) ≡ R.Number number
+ReadsBack = (number : ℤ) (field : List ℕ) → write_signed number field ≡ Ok tt → read_signed (field_after number field) ≡ Ok number
 
 -- "for signs C and D, minus zero excepted"
 abbrev pub KeptSign : List ℕ → ℤ → Type 0
@@ -16,13 +14,13 @@ KeptSign field number = (sign_digit field ≡ 0xC) ⊎ ((sign_digit field ≡ 0x
 -- "Writing what was read returns the bytes only" for these; and always for these
 abbrev pub WritesBack : Type 0
 WritesBack =
-    (field : List ℕ) (number : ℤ) → read_signed field ≡ R.Number number → (write_signed number field ≡ W.Written) × ((field_after number field ≡ field) ↔ KeptSign field number)
+    (field : List ℕ) (number : ℤ) → read_signed field ≡ Ok number → (write_signed number field ≡ Ok tt) × ((field_after number field ≡ field) ↔ KeptSign field number)
 
 -- a field of bytes that is read as the number
 pub record Shows (number : ℤ) : Type 0 where
   pub field : List ℕ
   pub bytes : Each (λ (b : ℕ). b < 256) field
-  pub reads : read_signed field ≡ R.Number number
+  pub reads : read_signed field ≡ Ok number
 
 -- the numbers that are read are those of at most fifteen digits, and no other
 abbrev pub Reached : Type 0

@@ -6,23 +6,10 @@ ghost use Rattle.digits.specs.Tens.{tens};
 ghost use Rattle.digits.specs.Packed.{digits_in, preferred, signed};
 ghost use Rattle.signed.specs.Signed.{greatest, fifteen, bad_place, read_signed, signed_field, write_signed, field_after};
 
-use digits::byte_at;
-
-// The number of a field, or how it is refused.
-#[derive(Clone, Copy)]
-pub enum ReadOut {
-    Number(i64),
-    Refused(u8),
-}
-
-// The field is written, or how it is refused.
-#[derive(Clone, Copy)]
-pub enum Wrote {
-    Written,
-    Refused(u8),
-}
+use digits::{Refusal, byte_at};
 
 // The digit at a place, two to a byte.
+#[tactic(auto, using(crate::proofs::Fields::even, crate::proofs::Fields::odd))]
 fn digit_at(field: &[u8], place: usize) -> u8
     ensures { (result ≡ get_or (digits_in field.now) place 0) × (result < 16) }
 {
@@ -31,10 +18,11 @@ fn digit_at(field: &[u8], place: usize) -> u8
 }
 
 // How many of the first fifteen places a field has.
+#[tactic(auto, using(crate::proofs::Fields::places))]
 fn places(field: &[u8]) -> usize
     ensures { (result ≡ length (fifteen field.now)) × (result ≤ 15) }
 {
-    if field.len() < 8 { 2 * field.len() } else { 15 }
+    (2 * field.len()).min(15)
 }
 
 // The place of the first digit over 9 among the first fifteen, or the place past them.
@@ -42,79 +30,63 @@ pub fn bad_place(field: &[u8]) -> usize
     ensures { result ≡ bad_place field.now }
 {
     let end = places(field);
-    let mut place = 0;
-    while place < end {
+    for place in 0..end {
         if 9 < digit_at(field, place) {
             return place;
         }
-        place += 1;
     }
-    place
+    end
 }
 
 // The number that the first fifteen digits write.
 fn size_in(field: &[u8]) -> u64
     ensures { (result ≡ tens (fifteen field.now)) × (result < 2000000000000000) }
 {
-    let end = places(field);
     let mut size: u64 = 0;
-    let mut place = 0;
-    while place < end {
-        size = size * 10 + digit_at(field, place) as u64;
-        place += 1;
+    for place in 0..places(field) {
+        size = size * 10 + u64::from(digit_at(field, place));
     }
     size
-}
-
-fn smaller(a: u64, b: u64) -> u64
-    ensures { result ≡ min a b }
-{
-    if a < b { a } else { b }
 }
 
 // The number of a size, below zero or not; a size over the greatest number's counts as that.
 pub fn with_sign(minus: bool, size: u64) -> i64
     ensures { result ≡ signed minus (min size greatest) }
 {
-    let number = smaller(size, 9223372036854775807) as i64;
+    let number = size.min(i64::MAX as u64) as i64;
     if minus { -number } else { number }
 }
 
 // The number of a field.
-pub fn read_signed(field: &[u8]) -> ReadOut
+#[tactic(auto, unfolding(crate::specs::Signed::read_signed))]
+pub fn read_signed(field: &[u8]) -> Result<i64, Refusal>
     ensures { result ≡ read_signed field.now }
 {
     if field.len() != 8 {
-        return ReadOut::Refused(33);
+        return Err(Refusal::SignedLength);
     }
     if bad_place(field) < 15 {
-        return ReadOut::Refused(25);
+        return Err(Refusal::Digit);
     }
     let sign = digit_at(field, 15);
-    if sign < 10 {
-        return ReadOut::Refused(26);
+    if sign < 0xA {
+        return Err(Refusal::Sign);
     }
-    ReadOut::Number(with_sign((sign == 11) | (sign == 13), size_in(field)))
+    Ok(with_sign(matches!(sign, 0xB | 0xD), size_in(field)))
 }
 
-// The size of any number, the least included.
+// The size of any number, the least included: std's, under the name that docs/PROMISES.md has.
 pub fn size(number: i64) -> u64
     ensures { result ≡ nat_abs number }
 {
-    if number < 0 {
-        let up = number + 1;
-        let down = (-up) as u64;
-        down + 1
-    } else {
-        number as u64
-    }
+    number.unsigned_abs()
 }
 
 // C, or D where the number is below zero.
 fn sign_for(minus: bool) -> u8
     ensures { result ≡ preferred minus }
 {
-    if minus { 13 } else { 12 }
+    if minus { 0xD } else { 0xC }
 }
 
 // Puts fifteen digits and a sign, from the last byte on.
@@ -124,26 +96,26 @@ fn put(size: u64, sign: u8, field: &mut [u8])
 {
     let mut rest = size;
     let mut low = sign;
-    let mut i = field.len();
-    while 0 < i {
-        i -= 1;
+    // By its place: over `iter_mut().rev()` the proof does not close, since it leaves nothing of the bytes.
+    for i in (0..field.len()).rev() {
         field[i] = (rest % 10) as u8 * 16 + low;
         low = (rest / 10 % 10) as u8;
-        rest = rest / 100;
+        rest /= 100;
     }
 }
 
 // Puts the field of a number.
-pub fn write_signed(number: i64, field: &mut [u8]) -> Wrote
+#[tactic(auto, unfolding(crate::specs::Signed::write_signed, crate::specs::Signed::field_after))]
+pub fn write_signed(number: i64, field: &mut [u8]) -> Result<(), Refusal>
     ensures { (result ≡ write_signed number field.old) × (field.new ≡ field_after number field.old) }
 {
     if field.len() != 8 {
-        return Wrote::Refused(33);
+        return Err(Refusal::SignedLength);
     }
     let size = size(number);
     if 999_999_999_999_999 < size {
-        return Wrote::Refused(27);
+        return Err(Refusal::TooLong);
     }
     put(size, sign_for(number < 0), field);
-    Wrote::Written
+    Ok(())
 }

@@ -2,7 +2,7 @@
 #![tactic(auto)]
 
 ghost use Rattle.std.specs.Prelude.{◌≡◌};
-ghost use Rattle.storage.specs.Storage.{reads_local, reads_at, writing, idle, access_of, outside};
+ghost use Rattle.storage.specs.Storage.{reads_local, reads_at, writing, idle, access_of, whole, outside};
 
 use digits::bit;
 use word::Fields;
@@ -41,6 +41,18 @@ pub struct Fence {
     pub end: usize,
 }
 
+impl Fence {
+    // All main storage is in it.
+    pub fn whole() -> Fence
+        ensures { result ≡ whole }
+    {
+        Fence {
+            start: 0,
+            end: 65536,
+        }
+    }
+}
+
 // A read is of local storage, by CU.
 fn reads_local(cu: u8, s: Seen) -> bool
     ensures { result ≡ reads_local cu s }
@@ -58,9 +70,9 @@ fn reads_at(m: u8, n: u8, local: bool, s: Seen) -> Access
     ensures { result ≡ reads_at m n local s }
 {
     Access {
-        m: m,
-        n: n,
-        local: local,
+        m,
+        n,
+        local,
         latch: true,
         fetches: !s.allow_write,
         puts: false,
@@ -71,12 +83,9 @@ fn writing(s: Seen) -> Access
     ensures { result ≡ writing s }
 {
     Access {
-        m: s.m,
-        n: s.n,
-        local: s.local_selected,
         latch: false,
-        fetches: false,
         puts: s.allow_write,
+        ..idle(s)
     }
 }
 
@@ -94,13 +103,13 @@ fn idle(s: Seen) -> Access
 }
 
 // What a word asks of storage, by CM and CU.
+#[tactic(auto, unfolding(crate::specs::Storage::access_of))]
 pub fn access_of(f: Fields, s: Seen) -> Access
     ensures { result ≡ access_of f s }
 {
     let local = reads_local(f.cu, s);
     let m = digits::first_of(local, s.m, s.l);
-    let cm = f.cm;
-    match cm {
+    match f.cm {
         0 => writing(s),
         1 => idle(s),
         2 => writing(s),

@@ -8,10 +8,11 @@ use lib.ListN.{length, length-append}
 use Rattle.digits.specs.Lent.{over}
 use Rattle.digits.proofs.Copies.{over_full}
 use Rattle.text.specs.Text.{hexadecimal, field_digits, put_of, room_after}
-use Rattle.text.specs.declared.Written.TheVariants as W
+use Rattle.std.specs.Prelude.{Ok, Err}
+use Rattle.digits.specs.declared.refusal.Refusal.TheVariants as R
 
 module _ (text old : List ℕ) where
-  pub too_small : length old < length text → (W.Refused 19 ≡ put_of text (length old)) × (old ≡ room_after text old)
+  pub too_small : length old < length text → (Err R.Room ≡ put_of text (length old)) × (old ≡ room_after text old)
   unfolding put_of room_after
   too_small h = rw (lt-ltb (length old) (length text) h) (refl, refl)
 
@@ -20,7 +21,7 @@ module _ (text old : List ℕ) where
   unfolding room_after
   fills e = rw (le-ltb (length old) (length text) (omega arith)) (over_full text old (omega arith))
 
-  pub fits : length text ≤ length old → (W.Text (length text) ≡ put_of text (length old)) × (over text old ≡ room_after text old)
+  pub fits : length text ≤ length old → (Ok (length text) ≡ put_of text (length old)) × (over text old ≡ room_after text old)
   unfolding put_of room_after
   fits h = rw (le-ltb (length old) (length text) h) (refl, refl)
 

@@ -1,12 +1,12 @@
 -- Text: characters, digits, columns, and a text in the room lent. Assumes nothing.
-use Rattle.std.specs.Prelude.{ℕ, zero, suc, ◌+◌, ◌-◌, ◌/◌, ◌%◌, List, [], ◌∷◌, ◌++◌, map, Bool, true, false, cond, not, ◌&&◌, eqb, ltb, length, drop, replicate}
+use Rattle.std.specs.Prelude.{ℕ, zero, suc, ◌+◌, ◌-◌, ◌/◌, ◌%◌, List, [], ◌∷◌, ◌++◌, map, Bool, true, false, cond, not, ◌&&◌, eqb, ltb, length, drop, replicate, Result, Ok, Err}
 use Rattle.digits.specs.Lent.{over}
 use Rattle.digits.specs.Lists.{joined}
 use Rattle.digits.specs.Number.{digits_of}
 use Rattle.digits.specs.Refusal.{Check, first, answer}
 use Rattle.digits.specs.Sizes.{room_wrong}
-use Rattle.text.specs.declared.Written.{Written}
-use Rattle.text.specs.declared.Written.TheVariants as W
+use Rattle.digits.specs.declared.refusal.Refusal.{Refusal}
+use Rattle.digits.specs.declared.refusal.Refusal.TheVariants as R
 
 -- "capitals": the character of a hexadecimal digit
 abbrev pub capital : ℕ → ℕ
@@ -46,12 +46,12 @@ abbrev pub right : ℕ → List ℕ → List ℕ
 right w text = replicate (w - length text) 32 ++ text
 
 -- 19: room lent is too small
-abbrev pub text_checks : List ℕ → ℕ → List Check
-text_checks text room = (19, room_wrong (length text) room) ∷ []
+abbrev pub text_checks : List ℕ → ℕ → List (Check Refusal)
+text_checks text room = (R.Room, room_wrong (length text) room) ∷ []
 
 -- the number of bytes of a text
-unfoldable pub put_of : List ℕ → ℕ → Written
-put_of text room = answer (first (text_checks text room)) W.Refused (W.Text (length text))
+unfoldable pub put_of : List ℕ → ℕ → Result ℕ Refusal
+put_of text room = answer (first (text_checks text room)) Err (Ok (length text))
 
 -- the text at the front of the room, and nothing past it; refused, nothing
 unfoldable pub room_after : List ℕ → List ℕ → List ℕ

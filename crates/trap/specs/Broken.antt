@@ -1,5 +1,5 @@
 -- A run that is broken into. Assumes nothing.
-use Rattle.std.specs.Prelude.{ℕ, zero, suc, ◌≡◌, List, Bool, true, false, not}
+use Rattle.std.specs.Prelude.{ℕ, zero, suc, ◌≡◌, List, Bool, true, false, not, Ok}
 use Rattle.word.specs.Layout.{fields_of}
 use Rattle.word.specs.Parity.{is_return}
 use Rattle.word.specs.declared.Fields.{Fields}
@@ -14,13 +14,12 @@ use Rattle.run.specs.Divided.{writes}
 use Rattle.run.specs.declared.Finished.{Finished}
 use Rattle.trap.specs.Trap.{trap_of}
 use Rattle.trap.specs.Return.{returns_next, StillOpen}
-use Rattle.trap.specs.declared.Trapped.TheVariants.{Taken}
 
 -- what is to hold after a cycle, where it ran
 abbrev pub WhereRan : (List ℕ → List ℕ → State → Type 0) → Cycled → List ℕ → List ℕ → Type 0
 WhereRan holds (C.Ran t) main local = holds main local t
 WhereRan holds (C.Stopped t) main local = Unit {0}
-WhereRan holds (C.Refused t number field) main local = Unit {0}
+WhereRan holds (C.Refused t refusal) main local = Unit {0}
 
 -- of n cycles in a row, as far as they run, each is of such a word
 abbrev pub Along : (Fields → Bool) → ℕ → Fence → Reading → List ℕ → List ℕ → List ℕ → State → Type 0
@@ -48,7 +47,7 @@ RoutineKeeps =
 pub record Broken (fence : Fence) (reading : Reading) (store main local : List ℕ) (s : State) : Type 0 where
   pub address : ℕ
   pub trapped : State
-  pub trap : trap_of address s ≡ Taken trapped
+  pub trap : trap_of address s ≡ Ok trapped
   pub cycles : ℕ
   pub routine : Outcome Finished
   pub runs : routine ≡ run_in cycles fence reading store main local trapped

@@ -1,5 +1,5 @@
 -- The return word: what a trap and a return word leave. Assumes nothing.
-use Rattle.std.specs.Prelude.{ℕ, ◌≡◌, List, [], ◌∷◌, Bool, true, false, not, ◌&&◌, eqb}
+use Rattle.std.specs.Prelude.{ℕ, ◌≡◌, List, [], ◌∷◌, Bool, true, false, not, ◌&&◌, eqb, Ok}
 use Rattle.word.specs.Layout.{fields_of}
 use Rattle.word.specs.Parity.{is_return}
 use Rattle.word.specs.declared.Fields.{Fields}
@@ -12,7 +12,6 @@ use Rattle.machine.specs.declared.State.{State}
 use Rattle.machine.specs.declared.Cycled.{Cycled}
 use Rattle.machine.specs.declared.Cycled.TheVariants as C
 use Rattle.trap.specs.Trap.{standing_at, trap_of}
-use Rattle.trap.specs.declared.Trapped.TheVariants.{Taken}
 
 -- ---- in whichever cycle
 
@@ -44,13 +43,13 @@ Returns =
 abbrev pub resumed_at : ℕ → Cycled → Cycled
 resumed_at wx (C.Ran u) = C.Ran (standing_at wx wx false u)
 resumed_at wx (C.Stopped u) = C.Stopped u
-resumed_at wx (C.Refused u number field) = C.Refused u number field
+resumed_at wx (C.Refused u refusal) = C.Refused u refusal
 
 -- all else is what the fields of the return word do to the state broken into
 abbrev pub TrapReturns : Type 0
 TrapReturns =
     (fence : Fence) (reading : Reading) (store main local : List ℕ) (address : ℕ) (s t u : State) (o : Outcome Cycled)
-    → trap_of address s ≡ Taken t
+    → trap_of address s ≡ Ok t
     → returns_next store t ≡ true
     → (cycle_in fence reading store main local t).answer ≡ C.Ran u
     → o ≡ ran_of reading (fields_of (word_at store t)) main local s
@@ -68,7 +67,7 @@ changes_none f = eqb f.cm 1 && (eqb f.cd 0 && (eqb f.cs 0 && not (saves f.cc)))
 abbrev pub TrapKeeps : Type 0
 TrapKeeps =
     (fence : Fence) (reading : Reading) (store main local : List ℕ) (address : ℕ) (s t u : State)
-    → trap_of address s ≡ Taken t
+    → trap_of address s ≡ Ok t
     → returns_next store t ≡ true
     → changes_none (fields_of (word_at store t)) ≡ true
     → (cycle_in fence reading store main local t).answer ≡ C.Ran u

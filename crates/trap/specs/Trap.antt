@@ -1,10 +1,10 @@
 -- "Trap and return.": document 02, request 10. The call between cycles. Assumes nothing.
-use Rattle.std.specs.Prelude.{ℕ, zero, suc, List, [], ◌∷◌, Bool, true}
-use Rattle.digits.specs.Refusal.{Check, first}
+use Rattle.std.specs.Prelude.{ℕ, List, [], ◌∷◌, Bool, true, Result, Ok, Err}
+use Rattle.digits.specs.Refusal.{Check, first, answer}
+use Rattle.digits.specs.declared.refusal.Refusal.{Refusal}
+use Rattle.digits.specs.declared.refusal.Refusal.TheVariants as R
 use Rattle.word.specs.Word.{far_address}
 use Rattle.machine.specs.declared.State.{State}
-use Rattle.trap.specs.declared.Trapped.{Trapped}
-use Rattle.trap.specs.declared.Trapped.TheVariants.{Taken, Refused}
 
 -- the state with these in WX, FWX and the latch, all else as it is
 abbrev pub standing_at : ℕ → ℕ → Bool → State → State
@@ -38,18 +38,14 @@ standing_at wx fwx owed s =
     }
 
 -- "29 trap while one is open, then 30 trap address over 4,095"
-abbrev pub trap_checks : ℕ → State → List Check
-trap_checks address s = (29, s.owed) ∷ (30, far_address address) ∷ []
+abbrev pub trap_checks : ℕ → State → List (Check Refusal)
+trap_checks address s = (R.Owed, s.owed) ∷ (R.TrapAddress, far_address address) ∷ []
 
--- "saves WX there and sets WX to a given address"; "neither changing anything"
-abbrev pub trap_by : ℕ → ℕ → State → Trapped
-trap_by (suc number) address s = Refused s (suc number)
-trap_by zero address s = Taken (standing_at address s.wx true s)
+-- "saves WX there and sets WX to a given address"
+unfoldable pub trap_of : ℕ → State → Result State Refusal
+trap_of address s = answer (first (trap_checks address s)) Err (Ok (standing_at address s.wx true s))
 
-unfoldable pub trap_of : ℕ → State → Trapped
-trap_of address s = trap_by (first (trap_checks address s)) address s
-
--- the paper's number of each answer, 0 where it does not refuse
-abbrev pub trap_number : Trapped → ℕ
-trap_number (Taken t) = 0
-trap_number (Refused t number) = number
+-- the state after it, where it was s before; "neither changing anything"
+abbrev pub state_after : State → Result State Refusal → State
+state_after s (Ok t) = t
+state_after s (Err refusal) = s

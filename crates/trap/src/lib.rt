@@ -4,26 +4,21 @@
 ghost use Rattle.std.specs.Prelude.{◌≡◌};
 ghost use Rattle.trap.specs.Trap.{trap_of};
 
+use digits::Refusal;
 use machine::State;
 
-// A refusal has its number.
-#[derive(Clone, Copy)]
-pub enum Trapped {
-    Taken(State),
-    Refused(State, u8),
-}
-
-// A trap between two cycles.
-pub fn trap(state: State, address: u32) -> Trapped
+// A trap between two cycles: the state after it, or 29 or 30, and the machine stands as it stood.
+#[tactic(auto, unfolding(crate::specs::Trap::trap_of))]
+pub fn trap(state: State, address: u32) -> Result<State, Refusal>
     ensures { result ≡ trap_of address state }
 {
     if state.owed {
-        return Trapped::Refused(state, 29);
+        return Err(Refusal::Owed);
     }
     if 4095 < address {
-        return Trapped::Refused(state, 30);
+        return Err(Refusal::TrapAddress);
     }
-    Trapped::Taken(State {
+    Ok(State {
         wx: address as u16,
         fwx: state.wx,
         owed: true,

@@ -1,11 +1,10 @@
 -- The ones of a word under each of the code's masks are the ones of the fields that are covered: one law, at each list of places. Assumes nothing.
-use Prim.Native.Nat.{ℕ, suc, ◌%◌}
-use mathlib.Core.Path.{◌≡◌, ap}
+use Prim.Native.Nat.{ℕ, suc}
+use mathlib.Core.Path.{◌≡◌}
 use mathlib.Core.List.{List, [], ◌∷◌, ◌++◌}
 use mathlib.Core.Bool.{Bool}
 use lib.Bits.{bit_and}
 use lib.Count.{ones}
-use lib.Dec.{eqb}
 use Rattle.digits.specs.Line.{ones_of}
 use Rattle.digits.specs.Table.{among}
 use Rattle.digits.proofs.Lines.{ones_mask}
@@ -19,9 +18,6 @@ marks_from place (k ∷ ks) places = among place places ∷ marks_from (suc plac
 
 abbrev marks : List ℕ → List Bool
 marks places = marks_from 1 widths places
-
-pub even_under : {m n : ℕ} → m ≡ n → eqb (m % 2) 0 ≡ eqb (n % 2) 0
-even_under e = ap (λ (x : ℕ). eqb (x % 2) 0) e
 
 pub pn_under : (w : ℕ) → ones (bit_and w 0x7F_0000_0000_0000) ≡ ones_of (covered pn_covers PN (line_of w))
 pn_under w = ones_mask widths (marks (pn_covers ++ (PN ∷ []))) w

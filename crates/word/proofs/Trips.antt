@@ -7,16 +7,16 @@ use native.Mathlib.Omega.{arith}
 use native.Mathlib.Nat.{mod-eq_of_lt}
 use borrow.Author.Tests.{lt-leb, leb-false, not-false}
 use Rattle.digits.specs.Line.{parts, join}
+use Rattle.std.specs.Prelude.{Option, None, Ok, Err}
 use Rattle.digits.specs.Refusal.{answer}
+use Rattle.digits.specs.declared.refusal.Refusal.{Refusal}
 use Rattle.digits.proofs.Lines.{Fit, join_parts, parts_join, join_lt, fit_true, true_fit, parts_fit}
-use Rattle.digits.proofs.Refusals.{None, none_first, Tells, given_none}
-use Rattle.digits.proofs.Truth.{zero_one, neither}
+use Rattle.digits.proofs.Refusals.{NoneHolds, none_first, given_none, result_tells}
+use Rattle.digits.proofs.Truth.{neither}
 use Rattle.word.specs.Layout.{widths, line_of, field, fields_of, line, PN, PA, PS, PC}
 use Rattle.word.specs.Parity.{odd_bit, values, pn_covers, pa_covers, ps_covers, pc_covers}
 use Rattle.word.specs.Word.{k_checks, fault_checks, fault_of, far_address, apart_checks, judged, taken_apart, in_width, pack_checks, line_with, packed}
 use Rattle.word.specs.declared.Fields.{Fields}
-use Rattle.word.specs.declared.Apart.TheVariants as A
-use Rattle.word.specs.declared.Packed.TheVariants as P
 use Rattle.word.proofs.Odd.{odd_makes, odd_is}
 
 -- ---- a line fits whatever its four parity bits are
@@ -41,32 +41,25 @@ width_back w =
 
 -- ---- what an accepted word, and accepted fields, meet
 
--- a refusal tells its number, and is no fields and no word
-pub apart_tells : Tells A.Fields A.Refused
-apart_tells = record { number = λ m n e. cc; apart = λ f n e. zero_one cc }
-
-pub packed_tells : Tells P.Word P.Refused
-packed_tells = record { number = λ m n e. cc; apart = λ w n e. zero_one cc }
-
-good : (w a : ℕ) (f : Fields) → taken_apart w a ≡ A.Fields f → None (apart_checks w a (line_of w)) × (fields_of w ≡ f)
+good : (w a : ℕ) (f : Fields) → taken_apart w a ≡ Ok f → NoneHolds (apart_checks w a (line_of w)) × (fields_of w ≡ f)
 unfolding taken_apart
-good w a f = given_none apart_tells (fields_of w) f (λ e. cc) (apart_checks w a (line_of w)) tt
+good w a f = given_none result_tells (fields_of w) f (λ e. cc) (apart_checks w a (line_of w))
 
 -- a word that is taken apart is not refused by 3 to 9, and its fields are its own
-pub apart_fields : (w a : ℕ) (f : Fields) → taken_apart w a ≡ A.Fields f → (fault_of w a ≡ 0) × (fields_of w ≡ f)
+pub apart_fields : (w a : ℕ) (f : Fields) → taken_apart w a ≡ Ok f → (fault_of w a ≡ None) × (fields_of w ≡ f)
 unfolding fault_of
 apart_fields w a f e =
     let (checks, same) = good w a f e in
     (none_first (fault_checks w a (line_of w)) checks.1, same)
 
-sound : (f : Fields) (a w : ℕ) → packed f a ≡ P.Word w → None (pack_checks f a) × (join widths (line_with f a) ≡ w)
+sound : (f : Fields) (a w : ℕ) → packed f a ≡ Ok w → NoneHolds (pack_checks f a) × (join widths (line_with f a) ≡ w)
 unfolding packed
-sound f a w = given_none packed_tells (join widths (line_with f a)) w (λ e. cc) (pack_checks f a) tt
+sound f a w = given_none result_tells (join widths (line_with f a)) w (λ e. cc) (pack_checks f a)
 
 -- ---- the two trips
 
 -- the word's own parity bits are those that packing works out
-line_back : (w a : ℕ) → None (apart_checks w a (line_of w)) → line_with (fields_of w) a ≡ line_of w
+line_back : (w a : ℕ) → NoneHolds (apart_checks w a (line_of w)) → line_with (fields_of w) a ≡ line_of w
 line_back w a (far, (top, (pn, (pa, (ps, (pc, k)))))) =
     let l : List ℕ = line_of w in
     let en : odd_bit (values pn_covers l) ≡ field l PN = odd_is (values pn_covers l) (field l PN) (omega arith) pn in
@@ -76,7 +69,7 @@ line_back w a (far, (top, (pn, (pa, (ps, (pc, k)))))) =
     rw (ea, en, es, ec)
 
 -- a word that was taken apart is packed again, to itself
-pub apart_packed : (w a : ℕ) (f : Fields) → taken_apart w a ≡ A.Fields f → packed f a ≡ P.Word w
+pub apart_packed : (w a : ℕ) (f : Fields) → taken_apart w a ≡ Ok f → packed f a ≡ Ok w
 unfolding packed
 apart_packed w a f e =
     let (checks, same) = good w a f e in
@@ -86,7 +79,7 @@ apart_packed w a f e =
     rw (← same, far, width_back w, none_first (k_checks (line (fields_of w) 0 0 0 0)) k, word)
 
 -- fields that were packed are taken apart again, to themselves
-pub packed_apart : (f : Fields) (a w : ℕ) → packed f a ≡ P.Word w → taken_apart w a ≡ A.Fields f
+pub packed_apart : (f : Fields) (a w : ℕ) → packed f a ≡ Ok w → taken_apart w a ≡ Ok f
 unfolding taken_apart
 packed_apart f a w e =
     let (checks, same) = sound f a w e in
@@ -98,6 +91,6 @@ packed_apart f a w e =
     let back : line_of w ≡ line_with f a = ap (parts widths) (sym same) ∙ parts_join widths (line_with f a) fits in
     let small : w < 2 ^ 55 = subst (λ (x : ℕ). x < 2 ^ 55) same (join_lt widths (line_with f a) fits) in
     ap (judged w a) back
-    ∙ ap (λ (n : ℕ). answer n A.Refused (A.Fields f))
+    ∙ ap (λ (k : Option Refusal). answer k Err (Ok f))
     (none_first (apart_checks w a (line_with f a))
     (far, (lt-leb (2 ^ 55) w small, (odd_makes (values pn_covers bare), (odd_makes (pa_covers a), (odd_makes (values ps_covers (line f 0 (odd_bit (pa_covers a)) 0 0)), (odd_makes (values pc_covers bare), k)))))))

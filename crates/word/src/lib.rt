@@ -10,7 +10,7 @@ ghost use Rattle.word.specs.Layout.{widths, line_of, fields_of, line};
 ghost use Rattle.word.specs.Parity.{pa_wrong, pk_wrong, ca_to_w, k_to_w, is_return};
 ghost use Rattle.word.specs.Word.{k_checks, fault_of, taken_apart, in_width, packed};
 
-use digits::first_of;
+use digits::{Refusal, first_of};
 
 // The 18 fields other than PN, PA, PS and PC. `asb` is AS, whose name is a word of the language.
 #[derive(Clone, Copy)]
@@ -33,18 +33,6 @@ pub struct Fields {
     pub cc: u8,
     pub cs: u8,
     pub asb: u8,
-}
-
-#[derive(Clone, Copy)]
-pub enum Apart {
-    Fields(Fields),
-    Refused(u8),
-}
-
-#[derive(Clone, Copy)]
-pub enum Packed {
-    Word(u64),
-    Refused(u8),
 }
 
 // The bits that each parity bit covers, with the bit itself. PK covers CA and AA, or CK.
@@ -90,13 +78,14 @@ pub fn fields_of(word: u64) -> Fields
 fn even(word: u64, mask: u64) -> bool
     ensures { result ≡ eqb (ones (bit_and word mask) % 2) 0 }
 {
-    u64::count_ones(word & mask) % 2 == 0
+    (word & mask).count_ones() % 2 == 0
 }
 
+#[tactic(auto, using(crate::proofs::Masks::pa_under))]
 fn pa_wrong(word: u64, address: u32) -> bool
     ensures { result ≡ pa_wrong address (line_of word) }
 {
-    (u32::count_ones(address % 4096) + u64::count_ones(word & PA)) % 2 == 0
+    ((address % 4096).count_ones() + (word & PA).count_ones()) % 2 == 0
 }
 
 // CL = 2: CA is a module number, for W.
@@ -106,7 +95,7 @@ fn ca_to_w(word: u64) -> bool
     word / 0x80_0000_0000 % 16 == 2
 }
 
-// The word sends K to W.
+// The word sends K to W. This and the next are two rules of the machine by name; one function of the code 2 or 3 would be no plainer.
 fn k_to_w(word: u64) -> bool
     ensures { result ≡ k_to_w (fields_of word) }
 {
@@ -120,46 +109,49 @@ fn is_return(word: u64) -> bool
     (word / 0x10_0000_0000 % 8 < 3) & (word / 0x4_0000_0000 % 4 == 3)
 }
 
+#[tactic(auto, using(crate::proofs::Masks::ca_under, crate::proofs::Masks::ck_under))]
 fn pk_wrong(word: u64) -> bool
     ensures { result ≡ pk_wrong (line_of word) }
 {
     (ca_to_w(word) & even(word, PK_OF_CA)) | (k_to_w(word) & even(word, PK_OF_CK))
 }
 
-// 8 or 9, or 0.
-fn k_fault(word: u64) -> u8
+// 8 or 9, if either.
+fn k_fault(word: u64) -> Option<Refusal>
     ensures { result ≡ first (k_checks (line_of word)) }
 {
     first_of(
         ca_to_w(word) & (k_to_w(word) | is_return(word)),
-        8,
-        first_of(pk_wrong(word), 9, 0),
+        Some(Refusal::TwiceToW),
+        first_of(pk_wrong(word), Some(Refusal::Pk), None),
     )
 }
 
-// 3 to 9, or 0: how the word is refused at the address.
-pub fn fault(word: u64, address: u32) -> u8
+// 3 to 9, if any: how the word is refused at the address.
+#[tactic(auto, using(crate::proofs::Masks::pn_under, crate::proofs::Masks::ps_under, crate::proofs::Masks::pc_under), unfolding(crate::specs::Word::fault_of))]
+pub fn fault(word: u64, address: u32) -> Option<Refusal>
     ensures { result ≡ fault_of word address }
 {
-    let seven = first_of(even(word, PC), 7, k_fault(word));
-    let six = first_of(even(word, PS), 6, seven);
-    let five = first_of(pa_wrong(word, address), 5, six);
-    let four = first_of(even(word, PN), 4, five);
-    first_of(0x80_0000_0000_0000 <= word, 3, four)
+    let seven = first_of(even(word, PC), Some(Refusal::Pc), k_fault(word));
+    let six = first_of(even(word, PS), Some(Refusal::Ps), seven);
+    let five = first_of(pa_wrong(word, address), Some(Refusal::Pa), six);
+    let four = first_of(even(word, PN), Some(Refusal::Pn), five);
+    first_of(0x80_0000_0000_0000 <= word, Some(Refusal::TopBits), four)
 }
 
 // The 18 fields, or 20, or 3 to 9.
-pub fn take_apart(word: u64, address: u32) -> Apart
+#[tactic(auto, unfolding(crate::specs::Word::taken_apart, crate::specs::Word::fault_of))]
+pub fn take_apart(word: u64, address: u32) -> Result<Fields, Refusal>
     ensures { result ≡ taken_apart word address }
 {
-    let number = first_of(4095 < address, 20, fault(word, address));
-    if number != 0 {
-        return Apart::Refused(number);
+    match first_of(4095 < address, Some(Refusal::Width), fault(word, address)) {
+        Some(refusal) => Err(refusal),
+        None => Ok(fields_of(word)),
     }
-    Apart::Fields(fields_of(word))
 }
 
 // No field is beyond its width: from the low end up.
+#[tactic(auto, unfolding(crate::specs::Word::in_width))]
 fn in_width(f: Fields) -> bool
     ensures { result ≡ in_width f }
 {
@@ -184,48 +176,47 @@ fn in_width(f: Fields) -> bool
 }
 
 // The bits of CN to CK.
-fn upper(cn: u8, ch: u8, cl: u8, cm: u8, cu: u8, ca: u8, aa: u8, cb: u8, ck: u8) -> u64
-    ensures { result ≡ cn * 2 ^ 49 + ch * 2 ^ 43 + cl * 2 ^ 39 + cm * 2 ^ 36 + cu * 2 ^ 34 + ca * 2 ^ 30 + aa * 2 ^ 29 + cb * 2 ^ 27 + ck * 2 ^ 23 }
+fn upper(f: Fields) -> u64
+    ensures { result ≡ f.cn * 2 ^ 49 + f.ch * 2 ^ 43 + f.cl * 2 ^ 39 + f.cm * 2 ^ 36 + f.cu * 2 ^ 34 + f.ca * 2 ^ 30 + f.aa * 2 ^ 29 + f.cb * 2 ^ 27 + f.ck * 2 ^ 23 }
 {
-    cn as u64 * 0x2_0000_0000_0000
-        + ch as u64 * 0x800_0000_0000
-        + cl as u64 * 0x80_0000_0000
-        + cm as u64 * 0x10_0000_0000
-        + cu as u64 * 0x4_0000_0000
-        + ca as u64 * 0x4000_0000
-        + aa as u64 * 0x2000_0000
-        + cb as u64 * 0x800_0000
-        + ck as u64 * 0x80_0000
+    f.cn as u64 * 0x2_0000_0000_0000
+        + f.ch as u64 * 0x800_0000_0000
+        + f.cl as u64 * 0x80_0000_0000
+        + f.cm as u64 * 0x10_0000_0000
+        + f.cu as u64 * 0x4_0000_0000
+        + f.ca as u64 * 0x4000_0000
+        + f.aa as u64 * 0x2000_0000
+        + f.cb as u64 * 0x800_0000
+        + f.ck as u64 * 0x80_0000
 }
 
 // The bits of AK to AS.
-fn lower(ak: u8, pk: u8, cd: u8, cf: u8, cg: u8, cv: u8, cc: u8, cs: u8, asb: u8) -> u64
-    ensures { result ≡ ak * 2 ^ 22 + pk * 2 ^ 21 + cd * 2 ^ 16 + cf * 2 ^ 13 + cg * 2 ^ 11 + cv * 2 ^ 9 + cc * 2 ^ 6 + cs * 2 ^ 2 + asb * 2 ^ 1 }
+fn lower(f: Fields) -> u64
+    ensures { result ≡ f.ak * 2 ^ 22 + f.pk * 2 ^ 21 + f.cd * 2 ^ 16 + f.cf * 2 ^ 13 + f.cg * 2 ^ 11 + f.cv * 2 ^ 9 + f.cc * 2 ^ 6 + f.cs * 2 ^ 2 + f.asb * 2 ^ 1 }
 {
-    ak as u64 * 0x40_0000
-        + pk as u64 * 0x20_0000
-        + cd as u64 * 0x1_0000
-        + cf as u64 * 0x2000
-        + cg as u64 * 0x800
-        + cv as u64 * 0x200
-        + cc as u64 * 0x40
-        + cs as u64 * 0x4
-        + asb as u64 * 0x2
+    f.ak as u64 * 0x40_0000
+        + f.pk as u64 * 0x20_0000
+        + f.cd as u64 * 0x1_0000
+        + f.cf as u64 * 0x2000
+        + f.cg as u64 * 0x800
+        + f.cv as u64 * 0x200
+        + f.cc as u64 * 0x40
+        + f.cs as u64 * 0x4
+        + f.asb as u64 * 0x2
 }
 
 // The word of the fields, with 0 for the four parity bits.
 fn bare(f: Fields) -> u64
     ensures { result ≡ join widths (line f 0 0 0 0) }
 {
-    upper(f.cn, f.ch, f.cl, f.cm, f.cu, f.ca, f.aa, f.cb, f.ck)
-        + lower(f.ak, f.pk, f.cd, f.cf, f.cg, f.cv, f.cc, f.cs, f.asb)
+    upper(f) + lower(f)
 }
 
 // The bit that makes the number of ones under the mask odd.
 fn odd_bit(word: u64, mask: u64) -> u64
     ensures { result ≡ 1 - ones (bit_and word mask) % 2 }
 {
-    (1 - u64::count_ones(word & mask) % 2) as u64
+    (1 - (word & mask).count_ones() % 2) as u64
 }
 
 // A word that has 0 for its four parity bits, with them.
@@ -234,23 +225,22 @@ fn with_parity(word: u64, address: u32) -> u64
     ensures { result ≡ word + (1 - ones (bit_and word 0x7F_0000_0000_0000) % 2) * 2 ^ 48 + (1 - ones (address % 4096) % 2) * 2 ^ 47 + (1 - ones (bit_and (word + (1 - ones (address % 4096) % 2) * 2 ^ 47) 0xFFFF_DFB0_0000) % 2) * 2 ^ 20 + (1 - ones (bit_and word 0xF_FFFF) % 2) }
 {
     let pn = odd_bit(word, PN);
-    let pa = (1 - u32::count_ones(address % 4096) % 2) as u64;
+    let pa = (1 - (address % 4096).count_ones() % 2) as u64;
     let ps = odd_bit(word + pa * 0x8000_0000_0000, PS);
     let pc = odd_bit(word, PC);
     word + pn * 0x1_0000_0000_0000 + pa * 0x8000_0000_0000 + ps * 0x10_0000 + pc
 }
 
 // The word of the fields, or 20, 8, 9.
-pub fn pack(fields: Fields, address: u32) -> Packed
+pub fn pack(fields: Fields, address: u32) -> Result<u64, Refusal>
     ensures { result ≡ packed fields address }
 {
     if (4095 < address) | !in_width(fields) {
-        return Packed::Refused(20);
+        return Err(Refusal::Width);
     }
     let word = bare(fields);
-    let number = k_fault(word);
-    if number != 0 {
-        return Packed::Refused(number);
+    match k_fault(word) {
+        Some(refusal) => Err(refusal),
+        None => Ok(with_parity(word, address)),
     }
-    Packed::Word(with_parity(word, address))
 }

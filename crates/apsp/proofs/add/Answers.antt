@@ -4,8 +4,7 @@ use mathlib.Core.Path.{◌∙◌}
 use native.Mathlib.Omega.{arith}
 use lib.ListN.{get_or}
 use Rattle.codes.specs.declared.Reading.TheVariants.{Basic}
-use Rattle.storage.specs.Storage.{whole}
-use Rattle.run.specs.Run.{run_of}
+use Rattle.run.specs.Run.{run_in}
 use Rattle.decimal.specs.Entry.{start_with, bound, entry_of}
 use Rattle.apsp.specs.Entry.{DONE, signed_of}
 use Rattle.apsp.proofs.Kept.{with_promise}
@@ -18,5 +17,5 @@ returns c =
     let a = c.args in
     let both = with_promise a.main.now a.local.now a.first a.second a.length a.subtract (bytes) _ _ _
     (c.entry.ensures
-    ∙ (λ i. entry_of DONE whole (run_of (bound a.length) Basic (c.words.ensures i) a.main.now a.local.now (start_with a.first a.second a.length (c.with_bit-status.ensures i))) a.main.now a.local.now a.first a.second a.length)) in
+    ∙ (λ i. entry_of DONE (c.whole.ensures i) (run_in (bound a.length) (c.whole.ensures i) Basic (c.words.ensures i) a.main.now a.local.now (start_with a.first a.second a.length (c.with_bit-status.ensures i))) a.main.now a.local.now a.first a.second a.length)) in
     record { run = both.0; promise = both.1 }

@@ -16,4 +16,4 @@ returns c =
     let l = a.local.now in
     let checks = add_checks a.fence (length m) (length l) a.first a.second a.length in
     let is = c.entry.ensures ∙ (λ i. entry_by SUMMED checks (run_in (bound a.length) a.fence Basic (c.words.ensures i) m l (start_with a.first a.second a.length (c.with_bit-status.ensures i))) m l) in
-    record { run = is; promise = promised checks tt a.fence m l a.first a.second a.length a.carry (accepted a.fence (length m) (length l) a.first a.second a.length) _ _ _ is }
+    record { run = is; promise = promised checks a.fence m l a.first a.second a.length a.carry (accepted a.fence (length m) (length l) a.first a.second a.length) _ _ _ is }

@@ -13,7 +13,7 @@ returns c =
     let ws = a.words.now in
     let ys : List ℕ = ws ++ replicate (62 - length ws) 0 in
     let h : a.b * 2 ^ 48 + length ws * 2 ^ 32 ≡ head_of a.b (length ws) = omega arith in
-    let y : c.copy_words.new.to ≡ ys = c.copy_words.ensures ∙ copied_all ws (replicate 62 0) (omega arith) ∙ ap (λ (l : List ℕ). ws ++ l) (drop_zeros (length ws) 62) in
+    let y : c.copy.new.to ≡ ys = c.copy.ensures ∙ copied_all ws (replicate 62 0) (omega arith) ∙ ap (λ (l : List ℕ). ws ++ l) (drop_zeros (length ws) 62) in
     let n : length ys ≡ 62 = length_padded ws (omega arith) in
     let s : c.block_check.result ≡ check_of (head_of a.b (length ws) ∷ ys) =
     (rw (h, y) at c.block_check.ensures) ∙ check_before (head_of a.b (length ws) ∷ ys) (0 ∷ []) (ap suc n) in

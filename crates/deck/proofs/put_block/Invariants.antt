@@ -1,5 +1,5 @@
 -- One group a turn: the front that is put, and what is left of the groups. Assumes nothing.
-use Rattle.std.proofs.Common.{◌-◌, ◌*◌, ◌≤◌, map, drop}
+use Rattle.std.proofs.Common.{◌*◌, map, drop}
 use Rattle.digits.specs.Lists.{joined}
 use Rattle.digits.specs.Number.{digits_of}
 use Rattle.deck.specs.Deck.{bytes_of}
@@ -7,7 +7,4 @@ use Rattle.digits.proofs.Puts.{Put}
 use Rattle.deck.proofs.put_block.Given as goal
 
 abbrev pub invariant-loop-i : goal.invariant-loop-i
-invariant-loop-i l = (l.i ≤ 64) × Put (bytes_of l.gs) l.initial.out (joined (map (digits_of 8 8) (drop l.i l.gs))) l.out (l.i * 8)
-
-abbrev pub decreases-loop-i : goal.decreases-loop-i
-decreases-loop-i l = 64 - l.i
+invariant-loop-i l = Put (bytes_of l.fn.gs) l.initial.out (joined (map (digits_of 8 8) (drop l.i l.fn.gs))) l.out (l.i * 8)

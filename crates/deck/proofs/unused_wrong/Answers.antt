@@ -1,25 +1,41 @@
--- The groups that are left to look at, against all the unused ones. Assumes nothing.
-use Rattle.std.proofs.Common.{◌≡◌, not, length, take, sym, ap, ◌∙◌, arith, drop_of_length-le, length-take, length-take-le, get_or-take}
-use Rattle.deck.proofs.Walks.{zero_step, zero_stop}
+-- A test of each unused group. Assumes nothing.
+use Rattle.std.proofs.Common.{◌≡◌, ℕ, ◌+◌, ◌-◌, ◌<◌, ◌≤◌, min, not, ◌||◌, ◌&&◌, eqb, Bool, true, false, List, [], ◌∷◌, take, drop, sym, refl, ap, ◌∙◌, ⊎_elim, arith, drop_of_length-le, length-take, rules}
+use borrow.Author.Tests.{tests}
+use Rattle.std.specs.List.{list_any}
+use Rattle.std.proofs.lemmas.Bool.{cases_lt}
+use Rattle.std.proofs.lemmas.List.{drop-take}
+use Rattle.std.proofs.lemmas.Iterator.{YieldsList-from_slice}
+use Rattle.std.proofs.lemmas.Iterator.Search.{any_from_yields_List}
+use Rattle.digits.specs.Lists.{all_zero}
+use Rattle.deck.specs.Deck.{count_in}
 use Rattle.deck.proofs.unused_wrong.Goals as goal
 
-pub returns-then-gs-unused-ne0 : goal.returns-then-gs-unused-ne0
-returns-then-gs-unused-ne0 c =
-    let l = c.loop-unused in
-    let gs = c.args.gs in
-    let n : length (take 63 gs) ≡ 63 = length-take-le 63 gs (omega arith) in
-    let z = zero_stop (take 63 gs) l.unused (omega arith) (rw (get_or-take 63 gs l.unused 0 (omega arith)) c.if-gs-unused-ne0.true) in
-    ap not (sym z ∙ l.invariant)
+any_is : (l : List ℕ) → list_any (λ x. not (eqb x 0)) l ≡ not (all_zero l)
+any_is [] = refl
+any_is (x ∷ l) = by (eqb x 0) (any_is l)
+  where
+    by : (b : Bool) → list_any (λ x. not (eqb x 0)) l ≡ not (all_zero l) → not b || list_any (λ x. not (eqb x 0)) l ≡ not (b && all_zero l)
+    by true e = e
+    by false e = refl
 
-pub loop-unused-preserved : goal.loop-unused-preserved
-loop-unused-preserved c =
-    let l = c.loop-unused in
-    let gs = c.args.gs in
-    let n : length (take 63 gs) ≡ 63 = length-take-le 63 gs (omega arith) in
-    zero_step (take 63 gs) l.unused (omega arith) (get_or-take 63 gs l.unused 0 (omega arith) ∙ c.if-gs-unused-ne0.false) ∙ l.invariant
+-- the groups from k up to the check
+part : (k : ℕ) (gs : List ℕ) → take (63 - min k 63) (drop (min k 63) gs) ≡ drop k (take 63 gs)
+part k gs = ⊎_elim within past (cases_lt k 63)
+  where
+    within : k < 63 → take (63 - min k 63) (drop (min k 63) gs) ≡ drop k (take 63 gs)
+    within h =
+        let m : min k 63 ≡ k = omega arith in
+        let s : k + (63 - k) ≡ 63 = omega arith in
+        rw m (rw s at (sym (drop-take k (63 - k) gs)))
+
+    past : 63 ≤ k → take (63 - min k 63) (drop (min k 63) gs) ≡ drop k (take 63 gs)
+    past h =
+        let m : min k 63 ≡ 63 = omega arith in
+        rw m (sym (drop_of_length-le (take 63 gs) {i = k} (omega (arith, length-take 63 gs))))
 
 pub returns : goal.returns
 returns c =
-    let l = c.loop-unused in
-    let gs = c.args.gs in
-    ap not (rw (drop_of_length-le (take 63 gs) {i = l.unused} (omega (arith, length-take 63 gs))) at l.invariant)
+    let e = any_from_yields_List (λ x. not (eqb x 0)) _ _ c.any.result c.any.ensures.ran (YieldsList-from_slice _ c.iter.ensures.rest) (λ x b q k. search (rules, tests)) in
+    let u : c.min-unused.result ≡ min (1 + count_in c.args.gs) 63 = c.min-unused.ensures ∙ ap (λ n. min (1 + n) 63) c.count_in.ensures.0 in
+    let p : take (63 - c.min-unused.result) (drop c.min-unused.result c.args.gs) ≡ drop (1 + count_in c.args.gs) (take 63 c.args.gs) = rw u (part (1 + count_in c.args.gs) c.args.gs) in
+    e ∙ any_is (take (63 - c.min-unused.result) (drop c.min-unused.result c.args.gs)) ∙ ap (λ l. not (all_zero l)) p

@@ -15,5 +15,5 @@ front_and_more a k n xs ys within fits =
 pub loop-done-preserved : goal.loop-done-preserved
 loop-done-preserved g c =
     let before = c.loop-done.invariant in
-    let more = front_and_more c.loop-done.done _ c.in-Ok.more c.loop-done.room c.read.new.buf before.0 c.in-Ok.ensures.bound.0 in
-    (search rules, subst (Consumes _ _) more (Consumes-trans _ _ _ _ _ before.1 c.in-Ok.ensures.bytes.0))
+    let more = front_and_more c.loop-done.done _ c.in_ok-more.more c.loop-done.room c.read.new.buf before.0 c.in_ok-more.ensures.bound.0 in
+    (search rules, subst (Consumes _ _) more (Consumes-trans _ _ _ _ _ before.1 c.in_ok-more.ensures.bytes.0))

@@ -10,4 +10,4 @@ unfolding refusal_of
 returns c =
     let n = c.args.number in
     let tail = tail_is (ltb n 10) (ltb n 100) (48 + n / 100) (48 + n / 10 % 10) (48 + n % 10) in
-    rw (c.zeros_in_front-from.ensures.0, c.three_digits-digits.ensures, tail) at c.put_both.ensures
+    rw (c.zeros_in_front-from.ensures.0, c.three_digits.ensures, tail) at c.put_both.ensures

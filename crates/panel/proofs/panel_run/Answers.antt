@@ -3,7 +3,7 @@ use Rattle.panel.proofs.Calls.{run_short, run_any}
 use Rattle.panel.proofs.panel_run.Goals as goal
 
 pub returns-then-state-lt-STATE : goal.returns-then-state-lt-STATE
-returns-then-state-lt-STATE c = run_short _ _ _ _ c.args.state.now _ _ _ c.if-state-lt-STATE.true c.coded.ensures c.counted.ensures
+returns-then-state-lt-STATE c = run_short _ _ _ _ c.args.state.now _ _ _ c.if-state-lt-STATE.true c.refused.ensures c.counted.ensures
 
 pub returns : goal.returns
 returns c =

@@ -1,17 +1,18 @@
 -- 19, then the trap. Assumes nothing.
+use Prim.Native.Nat.{ℕ}
 use mathlib.Core.Path.{ap, ◌∙◌}
 use Rattle.panel.specs.Answers.{answered}
 use Rattle.panel.proofs.Calls.{trap_short, trap_is}
 use Rattle.panel.proofs.panel_trap.Goals as goal
 
 pub returns-then-state-lt-STATE : goal.returns-then-state-lt-STATE
-returns-then-state-lt-STATE c = trap_short _ _ c.if-state-lt-STATE.true
+returns-then-state-lt-STATE c = trap_short _ _ _ c.number_of.ensures.0 c.if-state-lt-STATE.true
 
-pub returns-in-Taken : goal.returns-in-Taken
-returns-in-Taken c =
+pub returns-in-Ok : goal.returns-in-Ok
+returns-in-Ok c =
     ap (answered 0) c.place.ensures
-    ∙ trap_is _ _ c.if-state-lt-STATE.false _ _ _ c.loaded.ensures c.trap.ensures c.in-Taken.is
+    ∙ trap_is _ _ c.if-state-lt-STATE.false _ _ _ c.loaded.ensures c.trap.ensures c.in-Ok.is
 
-pub returns-in-Refused : goal.returns-in-Refused
-returns-in-Refused c =
-    trap_is _ _ c.if-state-lt-STATE.false _ _ _ c.loaded.ensures c.trap.ensures c.in-Refused.is
+pub returns-in-Err : goal.returns-in-Err
+returns-in-Err c =
+    ap (λ (n : ℕ). answered n c.args.state.now) c.number_of-in-Err.ensures.0 ∙ trap_is _ _ c.if-state-lt-STATE.false _ _ _ c.loaded.ensures c.trap.ensures c.in-Err.is

@@ -8,7 +8,7 @@ use Rattle.panel.proofs.panel_turn.Goals as goal
 pub returns-then-state-lt-STATE : goal.returns-then-state-lt-STATE
 returns-then-state-lt-STATE c =
     let a = c.args in
-    call_short (turn_of (record { start = a.start; end = a.end }) (record { start = a.other_start; end = a.other_end }) (reading_of a.reading) a.store.now a.main.now a.local.now) _ _ _ _ c.if-state-lt-STATE.true c.coded.ensures
+    call_short (turn_of (record { start = a.start; end = a.end }) (record { start = a.other_start; end = a.other_end }) (reading_of a.reading) a.store.now a.main.now a.local.now) _ _ _ _ c.if-state-lt-STATE.true c.refused.ensures
 
 pub returns : goal.returns
 returns c =

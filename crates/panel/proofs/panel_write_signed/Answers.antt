@@ -1,20 +1,12 @@
 -- The answer's number, and the field. Assumes nothing.
-use mathlib.Core.Path.{◌≡◌, sym, ap, ap₂, ◌∙◌}
+use mathlib.Core.Path.{◌≡◌, ap, ap₂, ◌∙◌}
 use Rattle.signed.specs.Signed.{write_signed, field_after}
 use Rattle.signed.proofs.Whole.{reads}
-use Rattle.panel.specs.Answers.{answered, wrote_number, write_signed_call}
+use Rattle.panel.specs.Answers.{answered, status, write_signed_call}
 use Rattle.panel.proofs.panel_write_signed.Goals as goal
 
-pub returns-in-Written : goal.returns-in-Written
+pub returns : goal.returns
 unfolding write_signed_call
-returns-in-Written c =
+returns c =
     let wrote : (c.write_signed.result ≡ write_signed c.args.number c.args.field.now) × (c.write_signed.new.field ≡ field_after c.args.number c.args.field.now) = rw (reads c.args.number c.ranges.number) at c.write_signed.ensures in
-    let write = wrote in
-    ap₂ answered (ap wrote_number (sym c.in-Written.is ∙ write.0)) write.1
-
-pub returns-in-Refused : goal.returns-in-Refused
-unfolding write_signed_call
-returns-in-Refused c =
-    let wrote : (c.write_signed.result ≡ write_signed c.args.number c.args.field.now) × (c.write_signed.new.field ≡ field_after c.args.number c.args.field.now) = rw (reads c.args.number c.ranges.number) at c.write_signed.ensures in
-    let write = wrote in
-    ap₂ answered (ap wrote_number (sym c.in-Refused.is ∙ write.0)) write.1
+    ap₂ answered (c.status.ensures ∙ ap status wrote.0) wrote.1

@@ -12,4 +12,4 @@ returns-in-BadDigit c = rw c.in-BadDigit.is c.bad.ensures
 
 pub returns-in-Refused : goal.returns-in-Refused
 unfolding result_of
-returns-in-Refused c = rw c.in-Refused.is c.refusal.ensures
+returns-in-Refused c = rw (c.in-Refused.is, ← c.number.ensures) c.refusal.ensures

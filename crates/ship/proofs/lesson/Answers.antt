@@ -12,5 +12,5 @@ pub returns : goal.returns
 unfolding lesson shipped packed in_width ones
 returns c =
     let words = c.words.ensures in
-    let front = c.copy_words.ensures ∙ (λ i. copied (words i) (replicate 23 0)) in
+    let front = c.copy.ensures ∙ (λ i. copied (words i) (replicate 23 0)) in
     λ i. set (set (front i) 21 0x0B0812801A6040) 22 0x01001D00100001

@@ -1,13 +1,8 @@
 -- The digits left, after the number that those before them write. Assumes nothing.
-use Prim.Native.Nat.{◌+◌, ◌-◌, ◌*◌, ◌^◌, ◌≤◌}
-use mathlib.Core.Path.{◌≡◌}
-use lib.ListN.{drop}
+use Rattle.std.proofs.Common.{◌≡◌, ◌+◌, ◌*◌, ◌^◌, ◌≤◌, drop}
 use Rattle.digits.specs.Tens.{tens_from, tens}
 use Rattle.signed.specs.Signed.{fifteen}
 use Rattle.signed.proofs.size_in.Given as goal
 
 abbrev pub invariant-loop-place : goal.invariant-loop-place
-invariant-loop-place l = (l.place ≤ l.end) × (tens_from l.size (drop l.place (fifteen l.field)) ≡ tens (fifteen l.field)) × (l.size + 2 ≤ 2 * 10 ^ l.place)
-
-abbrev pub decreases-loop-place : goal.decreases-loop-place
-decreases-loop-place l = l.end - l.place
+invariant-loop-place l = (tens_from l.size (drop l.place (fifteen l.field)) ≡ tens (fifteen l.field)) × (l.size + 2 ≤ 2 * 10 ^ l.place)

@@ -1,10 +1,11 @@
 -- The first text, then the second after it. Assumes nothing.
-use mathlib.Core.Path.{refl, sym, ◌∙◌}
-use mathlib.Core.List.{[], ◌++◌, append-nil}
+use Prim.Native.Nat.{◌+◌}
+use mathlib.Core.Path.{sym, ◌∙◌}
+use mathlib.Core.List.{◌++◌, append_assoc}
+use native.Mathlib.Nat.{add-sub_cancel_left}
 use native.Mathlib.Omega.{arith}
-use lib.ListN.{length, length-append}
-use Rattle.digits.proofs.Copies.{copied_all}
-use Rattle.digits.proofs.Puts.{Put, put_copy, put_all}
+use lib.ListN.{length, drop, length-append}
+use lib.Seq.{drop-drop, take-append_seam, drop-append_seam}
 use Rattle.text.proofs.Texts.{too_small, fits}
 use Rattle.text.proofs.put_both.Goals as goal
 
@@ -19,8 +20,6 @@ returns c =
     let first = a.first.now in
     let second = a.second.now in
     let old = a.room.now in
-    let r = fits (first ++ second) old (rw (length-append first second) (omega arith)) in
-    let p : Put (first ++ second) old second c.copy.new.to (length first) =
-    record { front = first; place = refl; split = refl; stands = c.copy.ensures ∙ copied_all first old (omega arith); same = c.copy.auto.to } in
-    let q = put_copy p second [] (sym (append-nil second)) c.copy-2.ensures (rw (length-append first second) (omega arith)) in
-    (rw (← length-append first second) r.0, put_all q ∙ r.1)
+    let r = rw (length-append first second) at (fits (first ++ second) old (rw (length-append first second) (omega arith))) in
+    rw (c.copy_from_slice.ensures.after, c.copy_from_slice-2.ensures.after, add-sub_cancel_left (length first) (length second), take-append_seam first (drop (length first) old), drop-append_seam first (drop (length first) old), drop-drop (length second) (length first) old)
+    (r.0, sym (append_assoc first second (drop (length first + length second) old)) ∙ r.1)

@@ -4,7 +4,6 @@ use mathlib.Core.Path.{◌≡◌, refl, ap, ◌∙◌}
 use native.Mathlib.Nat.{add-sub_cancel_left}
 use native.Mathlib.Omega.{arith}
 use lib.ListN.{length, get_or, take, drop, length-take, length-drop, drop_of_length-le}
-use borrow.Author.Rules.{rules}
 use Rattle.digits.proofs.Lists.{joined_step}
 use Rattle.digits.proofs.Puts.{put_turn, put_all}
 use Rattle.text.specs.Text.{hexadecimal, field_digits}
@@ -26,15 +25,15 @@ loop-i-preserved c =
     let k : at + 2 - at ≡ 2 = add-sub_cancel_left at 2 in
     let next : 2 * (l.i + 1) ≡ at + 2 = omega arith in
     let new = hexadecimal 2 (get_or field l.i 0) in
-    let two : length (take (at + 2 - at) (drop at l.room)) ≡ 2 = rw (k, length-take 2 (drop at l.room), length-drop at l.room) (omega (arith, inside, l.invariant.1, l.invariant.2.same)) in
-    let put = (rw two at c.put_hexadecimal.ensures) ∙ ap (hexadecimal 2) c.byte_at.ensures in
-    (search rules, l.invariant.1, rw (k, next) (put_turn l.invariant.2 new _ _ 2 (joined_step (hexadecimal 2) field 0 l.i inside) refl put (omega (arith, l.invariant.1, length_digits field))))
+    let two : length (take (at + 2 - at) (drop at l.room)) ≡ 2 = rw (k, length-take 2 (drop at l.room), length-drop at l.room) (omega (arith, inside, c.if-room-field.false, l.invariant.same)) in
+    let put = (rw two at c.put_hexadecimal.ensures) ∙ ap (hexadecimal 2) c.from.ensures in
+    rw (k, next) (put_turn l.invariant new _ _ 2 (joined_step (hexadecimal 2) field 0 l.i inside) refl put (omega (arith, length_digits field)))
 
 pub returns : goal.returns
 returns c =
     let l = c.loop-i in
     let a = c.args in
     let field = a.field.now in
-    let done = put_all (rw (drop_of_length-le field {i = l.i} (omega arith)) at l.invariant.2) in
-    let r = fits (field_digits field) a.room.now (omega (arith, length_digits field, l.invariant.1)) in
+    let done = put_all (rw (drop_of_length-le field {i = l.i} (omega arith)) at l.invariant) in
+    let r = fits (field_digits field) a.room.now (omega (arith, length_digits field)) in
     (rw (← length_digits field) r.0, done ∙ r.1)

@@ -3,8 +3,6 @@ use Prim.Native.Nat.{◌-◌, ◌/◌, ◌%◌}
 use mathlib.Core.Path.{◌≡◌, ap, ◌∙◌}
 use mathlib.Core.List.{[], ◌∷◌, ◌++◌, map, map-append}
 use native.Mathlib.Omega.{arith}
-use lib.ListN.{length-set}
-use borrow.Author.Rules.{rules}
 use Rattle.digits.specs.Number.{digits_of}
 use Rattle.digits.proofs.Number.{digits_last}
 use Rattle.digits.proofs.Puts.{put_before}
@@ -18,4 +16,4 @@ loop-i-preserved c =
     let ds = hexadecimal (l.i - 1) (l.rest / 16) in
     let x : all ≡ ds ++ (c.capital.result ∷ []) =
     ap (map capital) (digits_last 4 l.i l.rest (omega arith)) ∙ rw c.capital.ensures (map-append capital (digits_of 4 (l.i - 1) (l.rest / 16)) (l.rest % 16 ∷ [])) in
-    (search rules, simp length-set l.invariant.1, put_before ds all l.out l.i c.capital.result (omega arith) (omega arith) x ∙ l.invariant.2)
+    put_before ds all l.out l.i c.capital.result (omega arith) (omega arith) x ∙ l.invariant

@@ -8,12 +8,11 @@ use native.Mathlib.Omega.{arith}
 use Rattle.digits.specs.Line.{join}
 use Rattle.digits.specs.Refusal.{first}
 use Rattle.digits.proofs.Lines.{join_lt}
-use Rattle.digits.proofs.Refusals.{refuses, accepts}
 use Rattle.digits.proofs.Truth.{neither}
 use Rattle.word.specs.Layout.{widths, line_of, line}
 use Rattle.word.specs.Word.{packed, in_width, k_checks, far_address}
 use Rattle.word.specs.declared.Fields.{Fields}
-use Rattle.word.specs.declared.Packed.TheVariants as P
+use Rattle.std.specs.Prelude.{Ok}
 use Rattle.word.proofs.Sums.{line_is, word_is}
 use Rattle.word.proofs.Trips.{fit_line}
 use Rattle.word.proofs.pack.Goals as goal
@@ -30,16 +29,15 @@ pub returns-then-address-in_width : goal.returns-then-address-in_width
 unfolding packed
 returns-then-address-in_width c = rw (← c.in_width.ensures, c.if-address-in_width.true)
 
-pub returns-then-number-ne0 : goal.returns-then-number-ne0
+pub returns-in-Some : goal.returns-in-Some
 unfolding packed
-returns-then-number-ne0 c =
+returns-in-Some c =
     let f = c.args.fields in
     let a = c.args.address in
     let fits = c.in_width in
     let left = c.if-address-in_width.false in
     let width = width_of a f _ fits.ensures left in
-    rw (← fits.ensures, left, ← k-same f _ width c.bare-word.ensures, ← c.k_fault-number.ensures)
-    (sym (refuses P.Refused _ _ c.if-number-ne0.true))
+    rw (← fits.ensures, left, ← k-same f _ width c.bare-word.ensures, ← c.in-Some.ensures)
 
 pub with_parity-requires : goal.with_parity-requires
 with_parity-requires c =
@@ -49,14 +47,14 @@ with_parity-requires c =
     rw c.bare-word.ensures
     (join_lt widths (line f 0 0 0 0) (fit_line f 0 0 0 0 width (omega arith) (omega arith) (omega arith) (omega arith)))
 
-pub returns : goal.returns
+pub returns-in-None : goal.returns-in-None
 unfolding packed
-returns c =
+returns-in-None c =
     let f = c.args.fields in
     let a = c.args.address in
     let fits = c.in_width in
     let left = c.if-address-in_width.false in
     let bare = c.bare-word.ensures in
     let width = width_of a f _ fits.ensures left in
-    ap P.Word (c.with_parity.ensures ∙ word_is f width a _ bare)
-    ∙ rw (← fits.ensures, left, ← k-same f _ width bare, ← c.k_fault-number.ensures) (sym (accepts P.Refused _ _ c.if-number-ne0.false))
+    rw (← fits.ensures, left, ← k-same f _ width bare, ← c.in-None.ensures)
+    (ap Ok (c.with_parity.ensures ∙ word_is f width a _ bare))

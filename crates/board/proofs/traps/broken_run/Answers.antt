@@ -1,32 +1,35 @@
 -- What is left of the run stands for the whole; what is shown changes nothing of it. Assumes nothing.
-use Rattle.std.proofs.Common.{◌≡◌, ◌-◌, sym, ap, ◌∙◌, arith}
+use Rattle.std.proofs.Common.{◌≡◌, ◌-◌, [], refl, sym, ap, ◌∙◌, arith}
+use native.Mathlib.Nat.{sub-zero}
 use Rattle.board.specs.Broken.{state_of}
 use Rattle.board.proofs.Broken.{goes_on_lem, ends_early, ends}
 use Rattle.board.proofs.traps.broken_run.Goals as goal
+
+pub loop-trap-init : goal.loop-trap-init
+loop-trap-init g c = (omega arith, omega arith, refl, refl, record { traps = []; same = λ more. rw (sub-zero c.args.budget) })
 
 pub returns-then-not-spent : goal.returns-then-not-spent
 returns-then-not-spent g c =
     let at = c.loop-trap in
     let a = c.args in
-    ends_early a.budget a.reading a.store.now a.main.now a.local.now a.state at.invariant.5 (at.trap.after - at.done) c.go-went.ensures
+    ends_early a.budget a.reading a.store.now a.main.now a.local.now a.state at.invariant.4 (c.in-Some.trap.after - at.done) c.go-finished.ensures
     (sym c.spent.ensures ∙ c.if-not-spent.true)
 
 pub loop-trap-preserved : goal.loop-trap-preserved
 loop-trap-preserved g c =
     let at = c.loop-trap in
     let a = c.args in
-    let left : a.budget - at.done - (at.trap.after - at.done) ≡ a.budget - at.trap.after = omega (arith, at.invariant.0) in (
-      omega (arith, c.next-trap-in-loop-trap.ensures),
+    let trap = c.in-Some.trap in
+    let left : a.budget - at.done - (trap.after - at.done) ≡ a.budget - trap.after = omega (arith, at.invariant.0, c.in-Some.ensures) in (
       omega arith,
-      c.go-went.auto.main ∙ at.invariant.2,
-      c.go-went.auto.local ∙ at.invariant.3,
-      c.show-out.auto.room ∙ c.go-went.auto.room ∙ at.invariant.4,
-      goes_on_lem a.budget a.reading a.store.now a.main.now a.local.now a.state at.invariant.5 (at.trap.after - at.done) at.trap.address (a.budget - at.trap.after) c.go-went.ensures
-          (sym c.spent.ensures ∙ c.if-not-spent.false) left (c.state_of-now.ensures ∙ ap state_of c.trap-answer.ensures),
+      omega arith,
+      c.go-finished.auto.main ∙ at.invariant.2,
+      c.go-finished.auto.local ∙ at.invariant.3,
+      goes_on_lem a.budget a.reading a.store.now a.main.now a.local.now a.state at.invariant.4 (trap.after - at.done) trap.address (a.budget - trap.after) c.go-finished.ensures
+          (sym c.spent.ensures ∙ c.if-not-spent.false) left (c.state_of-now.ensures ∙ ap (state_of c.go-finished.result.state) c.trap-answer.ensures),
     )
 
 pub returns : goal.returns
 returns g c =
-    let at = c.loop-trap in
     let a = c.args in
-    ends a.budget a.reading a.store.now a.main.now a.local.now a.state at.invariant.5 c.go-went-2.ensures
+    ends a.budget a.reading a.store.now a.main.now a.local.now a.state c.loop-trap.invariant.4 c.go-finished-2.ensures

@@ -1,26 +1,25 @@
 -- The scan goes on while no code is found. Assumes nothing.
 use mathlib.Core.Path.{sym, ◌∙◌}
+use mathlib.Core.List.{[]}
+use mathlib.Core.Bool.{false}
 use native.Mathlib.Omega.{arith}
-use Rattle.codes.proofs.Scan.{hit_yes, hit_no, hit_end, found_on, found_at, found_end, found_of}
+use Rattle.codes.proofs.Scan.{hit_yes, hit_no, hit_end, found_on, found_at, found_end, found_of, five}
 use Rattle.codes.proofs.modelled.unmodelled.Goals as goal
 
-pub loop-k-preserved : goal.loop-k-preserved
-loop-k-preserved c = (omega arith, hit_no _ _ _ (omega arith) (omega arith) c.if-table-row.false ∙ c.loop-k.invariant.1)
+pub loop-listed-preserved : goal.loop-listed-preserved
+loop-listed-preserved c = hit_no _ _ _ _ _ c.if-applies-code.false ∙ c.loop-listed.invariant
 
-pub scan-preserved : goal.scan-preserved
-scan-preserved c = (
-  omega arith,
-  found_on _ _ (omega arith) (sym c.loop-k.invariant.1 ∙ hit_end _ _ _ c.loop-k-test.false) ∙ c.scan.invariant.1,
-)
+pub loop-place-preserved : goal.loop-place-preserved
+loop-place-preserved c =
+    let all = five c.is_basic-basic.result c.args.f c.loop-place.place-index (0, false, 0, []) (omega arith) in
+    found_on _ _ _ (omega arith) (sym c.loop-listed.invariant ∙ hit_end _ _ _ _ (omega arith)) ∙ c.loop-place.invariant
 
-pub returns-then-row-eq14 : goal.returns-then-row-eq14
-returns-then-row-eq14 c =
-    found_end _ _ c.if-row-eq14.true ∙ c.scan.invariant.1
-    ∙ found_of c.args.reading c.args.f _ _ _ _ _ _ _ c.is_basic-basic.ensures c.first_of.ensures c.first_of-2.ensures c.first_of-3.ensures c.first_of-4.ensures
-    c.first_of-5.ensures c.first_of-6.ensures
+pub returns-then-applies-code : goal.returns-then-applies-code
+returns-then-applies-code c =
+    let all = five c.is_basic-basic.result c.args.f c.loop-place.place-index (0, false, 0, []) (omega arith) in
+    found_at _ _ _ (omega arith) (sym c.loop-listed.invariant ∙ hit_yes _ _ _ _ _ (omega arith) c.if-applies-code.true) ∙ c.loop-place.invariant
+    ∙ found_of c.args.reading c.args.f _ c.is_basic-basic.ensures
 
-pub returns-then-table-row : goal.returns-then-table-row
-returns-then-table-row c =
-    found_at _ _ (omega arith) (sym c.loop-k.invariant.1 ∙ hit_yes _ _ _ (omega arith) (omega arith) c.if-table-row.true) ∙ c.scan.invariant.1
-    ∙ found_of c.args.reading c.args.f _ _ _ _ _ _ _ c.is_basic-basic.ensures c.first_of.ensures c.first_of-2.ensures c.first_of-3.ensures c.first_of-4.ensures
-    c.first_of-5.ensures c.first_of-6.ensures
+pub returns-after-loop-place : goal.returns-after-loop-place
+returns-after-loop-place c =
+    found_end _ _ (omega arith) ∙ c.loop-place.invariant ∙ found_of c.args.reading c.args.f _ c.is_basic-basic.ensures

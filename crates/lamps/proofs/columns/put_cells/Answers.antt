@@ -1,31 +1,44 @@
 -- One byte a turn: the front that is put, and what is left of the record. Assumes nothing.
-use Prim.Native.Nat.{◌+◌, ◌-◌, ◌≤◌}
-use mathlib.Core.Path.{◌≡◌}
+use mathlib.Core.Logic.{⊎_elim}
+use mathlib.Core.Path.{◌≡◌, refl}
+use mathlib.Core.List.{[], ◌++◌}
 use native.Mathlib.Omega.{arith}
-use lib.ListN.{length, get_or}
-use borrow.Author.Rules.{rules}
-use Rattle.digits.proofs.Puts.{put_turn}
 use Rattle.lamps.specs.Columns.{cell}
-use Rattle.lamps.proofs.Cells.{rest_from, rest_step, length_cell, cell_room}
+use Rattle.lamps.specs.Rows.{byte_cells}
+use Rattle.lamps.proofs.Cells.{length_cell, no_cells, no_bytes}
+use Rattle.lamps.proofs.Chain.{then, room_for, fits_past, finished_past}
 use Rattle.lamps.proofs.columns.put_cells.Goals as goal
 
-pub slice_bounds-put_cell-end : goal.slice_bounds-put_cell-end
-slice_bounds-put_cell-end c =
-    let room : c.loop-i.at + get_or c.args.spaces.now c.loop-i.i 0 + get_or c.args.digits.now c.loop-i.i 0 ≤ length c.loop-i.out = let l = c.loop-i in
-    cell_room c.args.spaces.now c.args.digits.now c.args.bytes.now c.args.out.now l.out l.at l.i c.requires.spaces_len.0 c.requires.spaces_len.1 c.loop-i-test.true c.requires.bytes_len l.invariant.1 in
-    omega (arith, room, c.size-in-loop-i.ensures, c.size.ensures)
-
-pub loop-i-preserved : goal.loop-i-preserved
-loop-i-preserved c =
-    let l = c.loop-i in
+pub put_cell-next-requires : goal.put_cell-next-requires
+put_cell-next-requires c =
+    let l = c.loop-row in
     let a = c.args in
-    let bs = a.spaces.now in
-    let ds = a.digits.now in
-    let xs = a.bytes.now in
-    let b = get_or bs l.i 0 in
-    let d = get_or ds l.i 0 in
-    let new = cell b d (get_or xs l.i 0) in
-    let pre = c.requires in
-    let k : l.at + c.size.result + c.size-in-loop-i.result - l.at ≡ b + d = rw (c.size.ensures, c.size-in-loop-i.ensures) (omega arith) in
-    let end : l.at + c.size.result + c.size-in-loop-i.result ≡ l.at + (b + d) = rw (c.size.ensures, c.size-in-loop-i.ensures) (omega arith) in
-    (search rules, rw (k, end) (put_turn l.invariant.1 new (rest_from bs ds xs (l.i + 1)) _ (b + d) (rest_step bs ds xs l.i (omega (arith, pre)) (omega (arith, pre)) c.loop-i-test.true) (length_cell b d _) c.put_cell.ensures (omega (arith, pre))))
+    let r = c.in-Some.row.now in
+    let x = c.in-Some.field-0-1.now in
+    let new = cell r.before r.digits x in
+    let left = byte_cells c.next.new.self.a.rest.now c.next.new.self.b.rest.now in
+    let steps = c.in-Some.ensures.steps in
+    let step : byte_cells l.row-iterator.a.rest.now l.row-iterator.b.rest.now ≡ new ++ left = λ i. byte_cells (steps.0 i) (steps.1 i) in
+    let room = room_for l.invariant new left step (fits_past (byte_cells a.rows.now a.bytes.now) a.room.now a.at c.requires) in
+    omega (arith, room, length_cell r.before r.digits x)
+
+pub loop-row-preserved : goal.loop-row-preserved
+loop-row-preserved c =
+    let l = c.loop-row in
+    let a = c.args in
+    let r = c.in-Some.row.now in
+    let x = c.in-Some.field-0-1.now in
+    let new = cell r.before r.digits x in
+    let left = byte_cells c.next.new.self.a.rest.now c.next.new.self.b.rest.now in
+    let steps = c.in-Some.ensures.steps in
+    let step : byte_cells l.row-iterator.a.rest.now l.row-iterator.b.rest.now ≡ new ++ left = λ i. byte_cells (steps.0 i) (steps.1 i) in
+    then l.invariant new left step refl c.put_cell-next.ensures (fits_past (byte_cells a.rows.now a.bytes.now) a.room.now a.at c.requires)
+
+pub returns : goal.returns
+returns c =
+    let l = c.loop-row in
+    let a = c.args in
+    let rs = l.row-iterator.a.rest.now in
+    let xs = l.row-iterator.b.rest.now in
+    let none : byte_cells rs xs ≡ [] = ⊎_elim (λ q. no_cells rs xs q.1.0) (λ q. no_bytes rs xs q.1.0) c.in-None.ensures.steps in
+    finished_past (byte_cells a.rows.now a.bytes.now) a.room.now a.at (omega (arith, c.requires)) (rw none at l.invariant)

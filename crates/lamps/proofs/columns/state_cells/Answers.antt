@@ -1,15 +1,14 @@
--- The record of the state, in its columns. Assumes nothing.
-use mathlib.Core.Path.{sym, ◌∙◌}
-use mathlib.Core.List.{append-nil}
+-- The record in its columns. Assumes nothing.
+use mathlib.Core.Path.{sym, ap, ◌∙◌}
 use Rattle.channels.specs.Channels.{channels, saved}
+use Rattle.lamps.specs.Rows.{table, byte_cells}
 use Rattle.lamps.proofs.Cells.{cells_bytes}
 use Rattle.lamps.proofs.columns.state_cells.Goals as goal
 
-pub put_cells-requires-clause-bytes_len : goal.put_cells-requires-clause-bytes_len
+pub put_cells-requires : goal.put_cells-requires
 unfolding saved
-put_cells-requires-clause-bytes_len c = rw c.saved-record.ensures
+put_cells-requires c = rw (ap (byte_cells (table channels)) c.saved.ensures ∙ sym (cells_bytes channels c.args.s)) c.requires
 
 pub returns : goal.returns
 unfolding saved
-returns c =
-    append-nil _ ∙ (rw c.saved-record.ensures at c.put_cells.ensures) ∙ sym (cells_bytes channels c.args.s)
+returns c = rw (ap (byte_cells (table channels)) c.saved.ensures ∙ sym (cells_bytes channels c.args.s)) at c.put_cells.ensures

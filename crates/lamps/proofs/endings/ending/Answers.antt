@@ -8,7 +8,7 @@ returns-in-Stopped c = rw c.in-Stopped.is c.standing.ensures
 
 pub returns-in-Refused : goal.returns-in-Refused
 unfolding ending_of
-returns-in-Refused c = rw c.in-Refused.is c.refused.ensures
+returns-in-Refused c = rw c.in-Refused.is (rw (c.number.ensures, c.field.ensures) at c.refused.ensures)
 
 pub returns-in-Spent : goal.returns-in-Spent
 unfolding ending_of

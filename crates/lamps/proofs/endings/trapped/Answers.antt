@@ -2,10 +2,10 @@
 use Rattle.lamps.specs.Ending.{trapped_of}
 use Rattle.lamps.proofs.endings.trapped.Goals as goal
 
-pub returns-in-Taken : goal.returns-in-Taken
+pub returns-in-Ok : goal.returns-in-Ok
 unfolding trapped_of
-returns-in-Taken c = rw c.in-Taken.is (rw c.taken.ensures at c.put.ensures)
+returns-in-Ok c = rw c.in-Ok.is (rw c.taken.ensures at c.put.ensures)
 
-pub returns-in-Refused : goal.returns-in-Refused
+pub returns-in-Err : goal.returns-in-Err
 unfolding trapped_of
-returns-in-Refused c = rw c.in-Refused.is c.refused.ensures
+returns-in-Err c = rw c.in-Err.is (rw c.number.ensures at c.refused.ensures)

@@ -24,6 +24,6 @@ returns c =
     let adder = cells work_channels a.w in
     let p = put_none (line_of a.cycle a.at a.s a.w) a.room.now in
     let p = then p (front_of a.cycle a.at) (lamps ++ (adder ++ (10 ∷ []))) refl c.front.ensures c.after-next.ensures h in
-    let p = then p lamps (adder ++ (10 ∷ [])) refl c.state_cells.ensures c.after-next-2.ensures h in
-    let p = then p adder (10 ∷ []) refl c.work_cells.ensures c.after-next-3.ensures h in
+    let p = then p lamps (adder ++ (10 ∷ [])) refl refl c.state_cells-next.ensures h in
+    let p = then p adder (10 ∷ []) refl refl c.work_cells-next.ensures h in
     finished (then p (10 ∷ []) [] refl refl c.after.ensures h) h

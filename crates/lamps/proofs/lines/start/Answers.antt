@@ -24,5 +24,5 @@ returns c =
     let lamps = cells channels a.s in
     let p = put_none (start_of a.s) a.room.now in
     let p = then p (ascii "      0 ---") (lamps ++ (10 ∷ [])) refl refl c.after-next.ensures h in
-    let p = then p lamps (10 ∷ []) refl c.state_cells.ensures c.after-next-2.ensures h in
+    let p = then p lamps (10 ∷ []) refl refl c.state_cells-next.ensures h in
     finished (then p (10 ∷ []) [] refl refl c.after.ensures h) h

@@ -1,12 +1,9 @@
 -- One row a turn: the front that is put, and the rows that are left. Assumes nothing.
-use Prim.Native.Nat.{◌-◌, ◌*◌, ◌≤◌}
-use lib.ListN.{length}
+use mathlib.Core.List.{◌++◌}
+use lib.ListN.{take}
 use Rattle.digits.proofs.Puts.{Put}
-use Rattle.lamps.proofs.Rows.{rows_in, rows_from}
+use Rattle.lamps.specs.Rows.{rows_in}
 use Rattle.lamps.proofs.pictures.put_rows.Given as goal
 
-abbrev pub invariant-loop-i : goal.invariant-loop-i
-invariant-loop-i l = (l.i ≤ length l.bytes) × Put (rows_in l.digits l.bytes) l.initial.out (rows_from l.digits l.bytes l.i) l.out (9 * l.i)
-
-abbrev pub decreases-loop-i : goal.decreases-loop-i
-decreases-loop-i l = length l.bytes - l.i
+abbrev pub invariant-loop-row : goal.invariant-loop-row
+invariant-loop-row l = Put (take l.at l.initial.room ++ rows_in l.rows l.bytes) l.initial.room (rows_in l.row-iterator.a.rest.now l.row-iterator.b.rest.now) l.room l.next

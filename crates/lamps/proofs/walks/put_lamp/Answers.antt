@@ -1,37 +1,40 @@
 -- The name, the number, the record, and a line feed. Assumes nothing.
-use Prim.Native.Nat.{◌*◌, ◌≤◌}
-use mathlib.Core.Path.{◌≡◌, refl, sym, ap, ◌∙◌}
+use Prim.Native.Nat.{ℕ, ◌+◌, ◌*◌, ◌≤◌}
+use mathlib.Core.Path.{◌≡◌, refl, ap, ◌∙◌}
 use mathlib.Core.List.{[], ◌∷◌, ◌++◌}
 use native.Mathlib.Omega.{arith}
-use lib.ListN.{length, drop, length-take, length-drop}
-use borrow.Author.Rules.{rules}
-use Rattle.digits.proofs.Copies.{over_full}
-use Rattle.digits.proofs.Puts.{put_none, put_turn, put_all}
+use lib.ListN.{length}
+use Rattle.digits.proofs.Puts.{put_from}
 use Rattle.channels.specs.Channels.{record_length}
 use Rattle.lamps.specs.Walk.{row_name, alone, hex_bytes, walk_line}
-use Rattle.lamps.proofs.Chain.{then}
-use Rattle.lamps.proofs.Lit.{length_name, alone_cells, length_record, length_line}
+use Rattle.lamps.proofs.Chain.{then, fits_past, finished_past}
+use Rattle.lamps.proofs.Lit.{name_at, length_alone, length_record, length_line}
 use Rattle.lamps.proofs.walks.put_lamp.Goals as goal
 
-pub put_cells-requires-clause-bytes_len : goal.put_cells-requires-clause-bytes_len
-put_cells-requires-clause-bytes_len c =
-    let row = c.args.row in
-    let x = c.args.byte in
-    let out = c.after.new.room in
-    rw (alone_cells row x) (length_record row x ∙ sym (length-take (3 * record_length) (drop 10 out) ∙ rw (length-drop 10 out) (search rules)))
+-- room for a record
+three_each : (n at room : ℕ) → n ≡ record_length → at + 81 ≤ room → at + 3 * n ≤ room
+three_each n at room e h = omega arith
+
+pub put_record-next-requires : goal.put_record-next-requires
+put_record-next-requires c =
+    three_each _ _ _ (length_alone c.args.row c.args.byte) (omega (arith, c.requires, c.after-next.ensures.0, c.after-next-2.ensures.0, c.after-next.auto.room, c.after-next-2.auto.room))
+
+pub after-requires : goal.after-requires
+after-requires c =
+    let record_put : c.put_record-next.result ≡ c.after-next-2.result + 81 = c.put_record-next.ensures.0 ∙ ap (λ (n : ℕ). c.after-next-2.result + n) (length_record c.args.row c.args.byte) in
+    omega (arith, record_put, c.requires, c.after-next.ensures.0, c.after-next-2.ensures.0, c.after-next.auto.room, c.after-next-2.auto.room, c.put_record-next.auto.room)
 
 pub returns : goal.returns
 unfolding walk_line
 returns c =
-    let row = c.args.row in
-    let n = c.args.number in
-    let x = c.args.byte in
-    let out = c.args.out.now in
-    let lit = hex_bytes (alone row x) in
-    let h : length (walk_line row (n, x)) ≤ length out = omega (arith, c.requires.1, length_line row (n, x) c.requires.0) in
-    let p = put_none (walk_line row (n, x)) out in
-    let p = then p (row_name row) (n ∷ (lit ++ (10 ∷ []))) refl c.name.ensures c.after-at.ensures h in
-    let p = then p (n ∷ []) (lit ++ (10 ∷ [])) refl refl c.after.ensures h in
-    let ten : c.after.result ≡ 10 = omega (arith, c.after-at.ensures.0, c.after.ensures.0, ap length c.name.ensures, length_name row c.requires.0) in
-    let p = put_turn (rw ten at p) lit (10 ∷ []) _ (3 * record_length) refl (length_record row x) (c.put_cells.ensures ∙ alone_cells row x) h in
-    put_all (then p (10 ∷ []) [] refl refl c.after-2.ensures h) ∙ over_full (walk_line row (n, x)) out (omega (arith, c.requires.1, length_line row (n, x) c.requires.0))
+    let a = c.args in
+    let old = a.room.now in
+    let lit = hex_bytes (alone a.row a.byte) in
+    let whole = walk_line a.row (a.number, a.byte) in
+    let inside : a.at + length whole ≤ length old = omega (arith, c.requires, length_line a.row (a.number, a.byte) c.requires.0) in
+    let fits = fits_past whole old a.at inside in
+    let p = put_from whole old a.at (omega (arith, inside)) in
+    let p = then p (row_name a.row) (a.number ∷ (lit ++ (10 ∷ []))) refl (name_at a.row _ c.requires.0) c.after-next.ensures fits in
+    let p = then p (a.number ∷ []) (lit ++ (10 ∷ [])) refl refl c.after-next-2.ensures fits in
+    let p = then p lit (10 ∷ []) refl refl c.put_record-next.ensures fits in
+    finished_past whole old a.at (omega (arith, inside)) (then p (10 ∷ []) [] refl refl c.after.ensures fits)
