@@ -116,7 +116,7 @@ fn count_lamps(f: Fields, sum: Option<Work>, s: State, counts: &mut Counts) {
     counts.tally_if(kept_out, KEPT_OUT);
 }
 
-// The seven codes on which the readings differ, and how each is reported.
+// The seven codes on which the readings differ. Their names stand apart: these are asked at each word, those are printed once.
 fn seven(f: Fields) -> [bool; 7] {
     [
         f.ch == 3,

@@ -62,7 +62,7 @@ pub(crate) fn board_of(letter: u8) -> Board
     if is_a(letter) { Board::A } else { Board::B }
 }
 
-// What an argument gives.
+// What an argument gives. It is read into a room, here and where else one is: that must outlive the call, and there is no heap.
 pub(crate) fn argument(rt: &impl Env, at: usize) -> Option<Named> {
     let mut text = [0u8; 24];
     let n = input::arg(rt, at, &mut text);
@@ -94,6 +94,7 @@ impl Named {
     }
 }
 
+// No board counts as A, so a derived equality would not do.
 fn is_b(board: Option<Board>) -> bool {
     matches!(board, Some(Board::B))
 }
