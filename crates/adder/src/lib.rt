@@ -72,10 +72,12 @@ fn gated_b(cg: u8, b: u8) -> u8
     gates.get(cg as usize).copied().unwrap_or(0)
 }
 
+// Worked out with no jump, here, for the carry and for what is decimal: by `match` of code and bit the tour is slower
+// (docs/BENCHMARK.md).
 fn is_complement(cv: u8, s0: bool) -> bool
     ensures { result ≡ is_complement cv s0 }
 {
-    matches!((cv, s0), (1, _) | (2 | 3, true))
+    (cv == 1) | (matches!(cv, 2 | 3) & s0)
 }
 
 fn turned(complemented: bool, b: u8) -> u8
@@ -135,7 +137,7 @@ fn uncarried(byte: u8) -> Uncorrected
 fn is_decimal(cv: u8, cc: u8) -> bool
     ensures { result ≡ is_decimal cv cc }
 {
-    cv == 3 && !matches!(cc, 2 | 3 | 7)
+    (cv == 3) & !matches!(cc, 2 | 3 | 7)
 }
 
 // A digit over 9 on either input, as gated.
@@ -155,7 +157,7 @@ fn entering_b(b: u8, c: Controls) -> u8
 fn carry_in(cc: u8, s3: bool) -> bool
     ensures { result ≡ carry_into cc s3 }
 {
-    matches!((cc, s3), (1 | 5, _) | (6, true))
+    matches!(cc, 1 | 5) | ((cc == 6) & s3)
 }
 
 // By CC. That 4 to 6 save the carry is the cycle's to do.

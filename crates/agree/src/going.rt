@@ -68,12 +68,12 @@ impl Going {
     // refusal at its number and 16 more.
     pub fn mix_added(&mut self, answer: Added, counts: &mut Counts) {
         let (number, count) = match answer {
-            Added::Summed(carry, count) => (u8::from(carry), Some(count)),
+            Added::Summed(carry, count) => (u64::from(carry), Some(count)),
             Added::BadDigit(count) => (2, Some(count)),
-            Added::Refused(refusal) => (refusal.number() + 16, None),
+            Added::Refused(refusal) => (u64::from(refusal.number()) + 16, None),
         };
-        counts.tally(usize::from(number));
-        self.mix(u64::from(number));
+        counts.tally(number as usize);
+        self.mix(number);
         if let Some(count) = count {
             self.mix(u64::from(count));
         }

@@ -12,20 +12,24 @@ pub struct Storages<const WORDS: usize, const MAIN: usize, const LOCAL: usize> {
 }
 
 impl<const WORDS: usize, const MAIN: usize, const LOCAL: usize> Storages<WORDS, MAIN, LOCAL> {
-    // No words; both storages drawn from a number each.
-    pub fn drawn(main: u64, local: u64) -> Storages<WORDS, MAIN, LOCAL> {
-        let mut drawn = Storages {
+    // No words, and both storages empty.
+    #[inline(always)]
+    pub fn new() -> Storages<WORDS, MAIN, LOCAL> {
+        Storages {
             store: [0; WORDS],
             main: [0; MAIN],
             local: [0; LOCAL],
-        };
-        Going { x: main, digest: 0 }.fill(&mut drawn.main);
+        }
+    }
+
+    // Both storages drawn, from a number each: in place, as a value that is handed back stands on the stack three times.
+    pub fn drawn(&mut self, main: u64, local: u64) {
+        Going { x: main, digest: 0 }.fill(&mut self.main);
         Going {
             x: local,
             digest: 0,
         }
-        .fill(&mut drawn.local);
-        drawn
+        .fill(&mut self.local);
     }
 
     // Puts a word where the store has that place.

@@ -113,7 +113,8 @@ fn report(counts: &Counts) {
 }
 
 fn main() {
-    let mut s = Storages::drawn(79, 83);
+    let mut s = Storages::new();
+    s.drawn(79, 83);
     let mut counts = Counts::new();
     let mut g = Going { x: 73, digest: 11 };
     for k in 0..40000 {

@@ -207,7 +207,8 @@ fn report(counts: &Counts) {
 
 // After every 10,000 cases, all that is stored.
 fn main() {
-    let mut s = Storages::drawn(17, 19);
+    let mut s = Storages::new();
+    s.drawn(17, 19);
     let mut counts = Counts::new();
     let mut g = Going { x: 13, digest: 4 };
     for k in 0..240000 {

@@ -107,7 +107,8 @@ fn report(counts: &Counts) {
 }
 
 fn main() {
-    let mut s = Storages::drawn(59, 61);
+    let mut s = Storages::new();
+    s.drawn(59, 61);
     let mut counts = Counts::new();
     let mut g = Going { x: 53, digest: 9 };
     for k in 0..40000 {

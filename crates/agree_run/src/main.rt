@@ -102,7 +102,8 @@ fn report(counts: &Counts, cycles: u64) {
 }
 
 fn main() {
-    let mut s = Storages::drawn(29, 31);
+    let mut s = Storages::new();
+    s.drawn(29, 31);
     let mut counts = Counts::new();
     let mut cycles: u64 = 0;
     let mut g = Going { x: 23, digest: 5 };

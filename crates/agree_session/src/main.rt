@@ -410,7 +410,8 @@ fn sessions(g: &mut Going, s: &mut Storages, local_b: &mut [u8; 257]) {
 }
 
 fn main() {
-    let mut s = Storages::drawn(71, 73);
+    let mut s = Storages::new();
+    s.drawn(71, 73);
     let mut local_b = [0u8; 257];
     Going { x: 79, digest: 0 }.fill(&mut local_b);
     let mut g = Going { x: 67, digest: 11 };

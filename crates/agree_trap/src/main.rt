@@ -194,7 +194,8 @@ fn runs(g: &mut Going, s: &mut Storages) {
 }
 
 fn main() {
-    let mut s = Storages::drawn(41, 43);
+    let mut s = Storages::new();
+    s.drawn(41, 43);
     let mut g = Going { x: 37, digest: 6 };
     calls(&mut g);
     returns(&mut g, &mut s);

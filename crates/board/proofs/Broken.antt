@@ -2,11 +2,11 @@
 use Rattle.std.proofs.Common.{◌≡◌, ℕ, ◌-◌, true, false, List, [], ◌∷◌, ◌++◌, sym, ◌∙◌, append_assoc}
 use Rattle.codes.specs.declared.Reading.{Reading}
 use Rattle.machine.specs.Cycle.{Outcome}
-use Rattle.trap.specs.Trap.{trap_of}
+use Rattle.trap.specs.Trap.{trap_of, state_after}
 use Rattle.machine.specs.declared.State.{State}
 use Rattle.run.specs.Run.{run_of}
 use Rattle.run.specs.declared.Finished.{Finished}
-use Rattle.board.specs.Broken.{state_of, is_spent, broken_of, BrokenInto}
+use Rattle.board.specs.Broken.{is_spent, broken_of, BrokenInto}
 
 module _ (budget : ℕ) (reading : Reading) (store main₀ local₀ : List ℕ) (s₀ : State) where
   -- after some traps the run stands at a state, with so many cycles left; more traps may follow
@@ -17,7 +17,7 @@ module _ (budget : ℕ) (reading : Reading) (store main₀ local₀ : List ℕ) 
   module _ {left : ℕ} {main local : List ℕ} {s : State} (b : BrokenTo left main local s) where
     -- a piece was run to its end, and a trap made
     pub goes_on_lem : (cycles address rest : ℕ) {o : Outcome Finished} {u : State} → o ≡ run_of cycles reading store main local s → is_spent o.answer.ending ≡ true → left - cycles ≡ rest
-        → u ≡ state_of o.answer.state (trap_of address o.answer.state) → BrokenTo rest o.main o.local u
+        → u ≡ state_after o.answer.state (trap_of address o.answer.state) → BrokenTo rest o.main o.local u
     unfolding broken_of
     goes_on_lem cycles address rest p spent e f =
         let trap : ℕ × ℕ = (cycles, address) in

@@ -1,8 +1,5 @@
 -- A run that traps break into. Assumes nothing.
-use Rattle.std.specs.Prelude.{◌≡◌, ℕ, ◌-◌, Bool, true, false, cond, List, [], ◌∷◌, unwrap_or}
-use Rattle.std.specs.Prelude.{Result}
-use Rattle.std.specs.Result.{result_ok}
-use Rattle.digits.specs.declared.refusal.Refusal.{Refusal}
+use Rattle.std.specs.Prelude.{◌≡◌, ℕ, ◌-◌, Bool, true, false, cond, List, [], ◌∷◌}
 use Rattle.codes.specs.declared.Reading.{Reading}
 use Rattle.machine.specs.Cycle.{Outcome}
 use Rattle.machine.specs.declared.State.{State}
@@ -10,11 +7,7 @@ use Rattle.run.specs.Run.{run_of}
 use Rattle.run.specs.declared.Ending.{Ending}
 use Rattle.run.specs.declared.Ending.TheVariants as E
 use Rattle.run.specs.declared.Finished.{Finished}
-use Rattle.trap.specs.Trap.{trap_of}
-
--- the state after a trap, be it taken or refused: then as before
-abbrev pub state_of : State → Result State Refusal → State
-state_of before answer = unwrap_or (result_ok answer) before
+use Rattle.trap.specs.Trap.{trap_of, state_after}
 
 -- the run may go on
 abbrev pub is_spent : Ending → Bool
@@ -24,7 +17,7 @@ is_spent E.Spent = true
 
 -- a trap after a piece of a run, and the rest from there; a piece that stopped or was refused ends the run
 abbrev pub on_trap : ℕ → (List ℕ → List ℕ → State → Outcome Finished) → Outcome Finished → Outcome Finished
-on_trap address rest o = cond (is_spent o.answer.ending) (rest o.main o.local (state_of o.answer.state (trap_of address o.answer.state))) o
+on_trap address rest o = cond (is_spent o.answer.ending) (rest o.main o.local (state_after o.answer.state (trap_of address o.answer.state))) o
 
 -- a run with traps, each after so many cycles more, to an address; what is left of the budget runs after the last. The count is the last
 -- piece's.

@@ -52,6 +52,8 @@ fn help(rt: &impl Env) {
     }
 }
 
+// Not inlined, nor are the commands of runs.rt: else every command would have their rooms on its stack.
+#[inline(never)]
 fn walk(rt: &impl Env) {
     if !tell::no_more(rt, 2) {
         return;

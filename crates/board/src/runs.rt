@@ -104,6 +104,7 @@ fn from_files<F: FnOnce(&[u64], &mut [u8], u32)>(rt: &(impl Env + Files), at: us
     }
 }
 
+#[inline(never)]
 pub fn run(rt: &(impl Env + Files), lamps: bool) {
     let at = options::first_at(lamps);
     if tell::enough(rt, at + 2) {
@@ -114,6 +115,7 @@ pub fn run(rt: &(impl Env + Files), lamps: bool) {
 }
 
 // Two boards: two fences and an order more.
+#[inline(never)]
 pub fn two(rt: &(impl Env + Files)) {
     if tell::enough(rt, 7) {
         from_files(rt, 2, |words, image, cycles| {

@@ -81,9 +81,9 @@ impl<'a> Screen<'a> {
         }
     }
 
-    // What came of a trap; a refused one stands at the address.
-    pub(crate) fn trap(&mut self, answer: Result<State, Refusal>, at: u16) {
-        self.page.write(|room| lamps::trapped(answer, at, room));
+    // What came of a trap that broke into the state.
+    pub(crate) fn trap(&mut self, before: State, answer: Result<State, Refusal>) {
+        self.page.write(|room| lamps::trapped(before, answer, room));
     }
 
     // An ending, and the address of the word at which it came.

@@ -1,7 +1,8 @@
 // Traps that the command line asks for, and the run that they break into.
 ghost use Rattle.std.specs.Prelude.{◌≡◌, ◌≤◌, IfSome};
 ghost use Rattle.machine.specs.Cycle.{outcome};
-ghost use Rattle.board.specs.Broken.{state_of, is_spent, BrokenInto};
+ghost use Rattle.trap.specs.Trap.{trap_of, state_after};
+ghost use Rattle.board.specs.Broken.{is_spent, BrokenInto};
 
 use crate::options::{self, Named};
 use crate::screen::Screen;
@@ -62,12 +63,21 @@ pub(crate) fn spent(ending: Ending) -> bool
 
 // The state from which the run goes on: a trap that is refused, which is told, leaves it as it was.
 fn state_of(answer: Result<State, Refusal>, before: State) -> State
-    ensures { result ≡ state_of before answer }
+    ensures { result ≡ state_after before answer }
 {
     if answer.is_err() {
         tell::line(b"a trap was refused");
     }
     answer.unwrap_or(before)
+}
+
+// Makes a trap and shows what came of it: the state from which the run goes on.
+fn trapped(screen: &mut Screen<'_>, before: State, address: u32) -> State
+    ensures { result ≡ state_after before (trap_of address before) }
+{
+    let answer = trap::trap(before, address);
+    screen.trap(before, answer);
+    state_of(answer, before)
 }
 
 // Runs up to each trap, and after the last until stop, refusal or budget, and shows each cycle and each trap.
@@ -97,9 +107,7 @@ pub fn broken_run(
             missed(Some(trap));
             return finished;
         }
-        let answer = trap::trap(finished.state, trap.address);
-        screen.trap(answer, finished.state.wx);
-        now = state_of(answer, finished.state);
+        now = trapped(screen, finished.state, trap.address);
         done = trap.after;
         from = done + 1;
     }

@@ -3,7 +3,7 @@ use Rattle.std.specs.Prelude.{ℕ, ◌<◌, ◌≡◌, List, [], ◌∷◌, map,
 use Rattle.digits.specs.declared.refusal.Refusal.{Refusal}
 use Rattle.digits.specs.declared.refusal.Refusal.TheVariants as R
 
--- the paper's number of each refusal
+-- the paper's number of each refusal; `Other` has any other, which no list of checks gives
 abbrev pub refusal_number : Refusal → ℕ
 refusal_number R.Size = 1
 refusal_number R.NoWord = 2
@@ -34,10 +34,12 @@ refusal_number R.Owed = 29
 refusal_number R.TrapAddress = 30
 refusal_number R.Fence = 32
 refusal_number R.SignedLength = 33
+refusal_number (R.Other number place) = number
 
--- 10 comes with its field, every other number with 0
+-- 10 comes with its field, every other number of the paper with 0
 abbrev pub refusal_field : Refusal → ℕ
 refusal_field (R.NotModelled place) = place
+refusal_field (R.Other number place) = place
 refusal_field r = 0
 
 -- an answer, and the test by which it is given

@@ -34,6 +34,8 @@ pub enum Refusal {
     TrapAddress,
     Fence,
     SignedLength,
+    // Any other number, with a field's place: no list of checks has it, and what tells a refusal tells it too.
+    Other(u8, u8),
 }
 
 impl Refusal {
@@ -71,15 +73,17 @@ impl Refusal {
             Refusal::TrapAddress => 30,
             Refusal::Fence => 32,
             Refusal::SignedLength => 33,
+            Refusal::Other(number, _) => number,
         }
     }
 
-    // The place in the word of the field whose code is not modelled; of any other refusal 0, as C has it.
+    // The place in the word of the field whose code is not modelled, or that another number comes with; else 0, as C has it.
     pub fn field(self) -> u8
         ensures { result ≡ refusal_field self }
     {
         match self {
             Refusal::NotModelled(place) => place,
+            Refusal::Other(_, place) => place,
             _ => 0,
         }
     }

@@ -1,11 +1,11 @@
 -- Rows of lamps, by the rows of the table and the bytes of the record. Assumes nothing.
-use Prim.Native.Nat.{ℕ, suc, ◌+◌, ◌<◌, ◌≤◌, min}
+use Prim.Native.Nat.{ℕ, suc, ◌+◌, ◌*◌, ◌<◌, ◌≤◌, min}
 use mathlib.Core.Path.{◌≡◌, refl, sym, ap, ◌∙◌}
-use mathlib.Core.Bool.{Bool, true, false}
+use mathlib.Core.Bool.{Bool, true, false, cond, not}
 use mathlib.Core.List.{List, [], ◌∷◌, ◌++◌, append-nil}
 use native.Mathlib.Omega.{arith}
 use borrow.Author.Tests.{leb-true, leb-false}
-use lib.Dec.{leb}
+use lib.Dec.{leb, eqb}
 use lib.ListN.{length, take, drop, drop_of_length-le, length-append, length-drop}
 use lib.Seq.{take_all, take-append_seam, drop-append_seam}
 use Rattle.adder.specs.declared.Work.{Work}
@@ -13,8 +13,8 @@ use Rattle.machine.specs.declared.State.{State}
 use Rattle.channels.specs.Lamps.{Kind, byte, pair, latch, Value, lamp_bytes, Channel, bytes_of}
 use Rattle.channels.specs.Channels.{channels, work_channels, saved, worked}
 use Rattle.lamps.specs.Columns.{column_width}
-use Rattle.lamps.specs.Picture.{lamp_rows, rows_of, names_of, blocks, eights, blocks_of}
-use Rattle.lamps.specs.Rows.{rows_by, table, byte_rows, names_in, rows_in, block_bytes, byte_blocks, blocks_bytes}
+use Rattle.lamps.specs.Picture.{lamp, eight, in_place, lamp_rows, rows_of, names_of, blocks, eights, blocks_of}
+use Rattle.lamps.specs.Rows.{rows_by, table, row_at, byte_rows, names_in, rows_in, block_bytes, byte_blocks, blocks_bytes}
 use Rattle.lamps.specs.declared.columns.Row.{Row}
 
 -- the rows of some channels are those of their bytes
@@ -37,6 +37,21 @@ pub no_lamps : (rs : List Row) (xs : List ℕ) → length xs ≡ 0 → rows_in r
 no_lamps [] xs e = refl
 no_lamps (r ∷ rs) [] e = refl
 no_lamps (r ∷ rs) (x ∷ xs) e = absurd (omega arith)
+
+-- a row has nine bytes in its place, and so rows side by side nine times as many as there are
+length_row : (digits x : ℕ) → length (in_place (row_at digits x)) ≡ 9
+length_row digits x = by (eqb digits 1)
+  where
+    by : (b : Bool) → length (in_place (cond b (lamp (not (eqb x 0)) ∷ []) (eight x))) ≡ 9
+    by true = refl
+    by false = refl
+
+pub length_rows : (rs : List Row) (xs : List ℕ) → length rs ≡ length xs → length (rows_in rs xs) ≡ 9 * length xs
+length_rows [] [] e = refl
+length_rows [] (x ∷ xs) e = absurd (omega arith)
+length_rows (r ∷ rs) [] e = absurd (omega arith)
+length_rows (r ∷ rs) (x ∷ xs) e =
+    length-append (in_place (row_at r.digits x)) (rows_in rs xs) ∙ rw (length_row r.digits x, length_rows rs xs (omega arith)) (omega arith)
 
 pub length_block : (rs : List Row) (xs : List ℕ) → length (block_bytes rs xs) ≡ length (names_in rs) + (length (rows_in rs xs) + 2)
 length_block rs xs = length-append (names_in rs) _ ∙ rw (length-append (rows_in rs xs) (10 ∷ [])) (omega arith)

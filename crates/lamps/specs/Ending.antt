@@ -7,6 +7,7 @@ use Rattle.text.specs.Words.{words_of}
 use Rattle.digits.specs.Refusal.{refusal_number, refusal_field}
 use Rattle.digits.specs.declared.refusal.Refusal.{Refusal}
 use Rattle.machine.specs.declared.State.{State}
+use Rattle.trap.specs.Trap.{state_after}
 use Rattle.run.specs.declared.Ending.{Ending}
 use Rattle.run.specs.declared.Ending.TheVariants as E
 
@@ -38,7 +39,7 @@ ending_of (E.Refused r) at = refused_of (refusal_number r) (refusal_field r) at
 abbrev pub taken_of : ℕ → ℕ → List ℕ
 taken_of to from = ascii "TRAP TO " ++ (hexadecimal 3 to ++ (ascii ", FROM " ++ (hexadecimal 3 from ++ (10 ∷ []))))
 
--- what came of a trap; a refused one stands at the address
-unfoldable pub trapped_of : Result State Refusal → ℕ → List ℕ
-trapped_of (Ok t) at = taken_of t.wx t.fwx
-trapped_of (Err r) at = ascii "TRAP " ++ refused_of (refusal_number r) 0 at
+-- what came of a trap that broke into the state; a refused one stands where that does after it
+unfoldable pub trapped_of : State → Result State Refusal → List ℕ
+trapped_of s (Ok t) = taken_of t.wx t.fwx
+trapped_of s (Err r) = ascii "TRAP " ++ refused_of (refusal_number r) 0 (state_after s (Err r)).wx

@@ -119,16 +119,16 @@ fn taken(to: u16, from: u16) -> [u8; 22]
     text
 }
 
-// What came of a trap; a refused one stands at the address.
+// What came of a trap that broke into the state; a refused one stands where that does.
 pub fn trapped(
+    before: State,
     answer: Result<State, Refusal>,
-    address: u16,
     room: &mut [u8],
 ) -> Result<usize, Refusal>
-    ensures { (result ≡ put_of (trapped_of answer address) (length room.old)) × (room.new ≡ room_after (trapped_of answer address) room.old) }
+    ensures { (result ≡ put_of (trapped_of before answer) (length room.old)) × (room.new ≡ room_after (trapped_of before answer) room.old) }
 {
     match answer {
         Ok(s) => text::put(&taken(s.wx, s.fwx), room),
-        Err(r) => refused(b"TRAP ", r.number(), 0, address, room),
+        Err(r) => refused(b"TRAP ", r.number(), 0, before.wx, room),
     }
 }

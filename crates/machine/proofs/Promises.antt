@@ -1,6 +1,6 @@
 -- What a cycle's answers mean, and that no second answer fits. Assumes nothing.
 use Prim.Native.Nat.{ℕ, ◌<◌}
-use mathlib.Core.Path.{◌≡◌, refl, sym, ap, ◌∙◌}
+use mathlib.Core.Path.{◌≡◌, refl, sym, ap, ◌∙◌, subst}
 use mathlib.Core.List.{List, map}
 use mathlib.Core.Bool.{Bool, true, false, cond, not, ◌&&◌}
 use native.Mathlib.Omega.{arith}
@@ -187,23 +187,23 @@ pub refused_by_1 : (fence : Fence) (reading : Reading) (store main local : List 
 unfolding cycle_in
 refused_by_1 fence reading store main local s wrong = rw wrong
 
--- with right ones it is not; and 22 is given by no cycle
-pub never_1 : (fence : Fence) (reading : Reading) (store main local : List ℕ) (s : State) → sizes_wrong (length store) (length main) (length local) ≡ false → refusal_in (cycle_in fence reading store main local s).answer ≡ Some R.Size → ⊥
+-- with right ones no refusal of a cycle has that number; and none ever has 22
+pub never_1 : (fence : Fence) (reading : Reading) (store main local : List ℕ) (s : State) → sizes_wrong (length store) (length main) (length local) ≡ false → (r : Refusal) → refusal_in (cycle_in fence reading store main local s).answer ≡ Some r → refusal_number r ≡ 1 → ⊥
 unfolding cycle_in
-never_1 fence reading store main local s right e =
+never_1 fence reading store main local s right r e one =
     let f : Fields = fields_of (word_at store s) in
     let checks : List (Check Refusal) = next_word_checks fence reading store (length main) s in
-    let is : first checks ≡ Some R.Size =
+    let is : first checks ≡ Some r =
     ap (λ (b : Bool). cond b (Some R.Size) (first checks)) (sym right) ∙ sym (decided_refusal reading (first (cycle_checks fence reading store main local s)) (stops f) f main local s) ∙ e in
-    first_is (λ (r : Refusal). T (ltb 1 (refusal_number r))) checks (search rules) is
+    subst (λ (n : ℕ). T (ltb 1 n)) one (first_is (λ (q : Refusal). T (ltb 1 (refusal_number q))) checks (search rules) is)
 
-pub never_22 : (fence : Fence) (reading : Reading) (store main local : List ℕ) (s : State) → refusal_in (cycle_in fence reading store main local s).answer ≡ Some R.Budget → ⊥
+pub never_22 : (fence : Fence) (reading : Reading) (store main local : List ℕ) (s : State) (r : Refusal) → refusal_in (cycle_in fence reading store main local s).answer ≡ Some r → refusal_number r ≡ 22 → ⊥
 unfolding cycle_in
-never_22 fence reading store main local s e =
+never_22 fence reading store main local s r e last =
     let f : Fields = fields_of (word_at store s) in
     let checks : List (Check Refusal) = cycle_checks fence reading store main local s in
-    let is : first checks ≡ Some R.Budget = sym (decided_refusal reading (first checks) (stops f) f main local s) ∙ e in
-    first_is (λ (r : Refusal). T (ltb (refusal_number r) 22)) checks (search rules) is
+    let is : first checks ≡ Some r = sym (decided_refusal reading (first checks) (stops f) f main local s) ∙ e in
+    subst (λ (n : ℕ). T (ltb n 22)) last (first_is (λ (q : Refusal). T (ltb (refusal_number q) 22)) checks (search rules) is)
 
 -- ---- a refusal's number and field are bytes
 

@@ -2,6 +2,7 @@
 use Rattle.std.specs.Prelude.{ℕ, ◌≡◌, Bool, true, false, List, [], ◌∷◌, Result, Ok, Err}
 use Rattle.digits.specs.Refusal.{refusal_number}
 use Rattle.digits.specs.declared.refusal.Refusal.{Refusal}
+use Rattle.digits.specs.declared.refusal.Refusal.TheVariants as R
 use Rattle.word.specs.Word.{packed, taken_apart}
 use Rattle.word.specs.declared.Fields.{Fields}
 use Rattle.adder.specs.Adder.{sum_of}
@@ -27,9 +28,10 @@ all cv cc s0 = record { cf = 3; cg = 3; cv = cv; cc = cc; s0 = s0; s3 = false }
 abbrev alone : ℕ → Controls
 alone cf = record { cf = cf; cg = 0; cv = 0; cc = 0; s0 = false; s3 = false }
 
--- a refusal by this number
+-- a refusal of the paper by this number
 abbrev RefusedBy : ℕ → Result Fields Refusal → Type 0
 RefusedBy number (Ok f) = ⊥
+RefusedBy number (Err (R.Other n place)) = ⊥
 RefusedBy number (Err r) = refusal_number r ≡ number
 
 -- by the definitions that the contracts of `pack`, `take_apart` and `add` cite

@@ -5,19 +5,20 @@ use mathlib.Core.List.{List, [], ◌∷◌, ◌++◌}
 use mathlib.Core.Bool.{true, false, not}
 use native.Mathlib.Omega.{arith}
 use borrow.Author.Rules.{Below-set}
-use borrow.Author.Tests.{eqb-false}
+use borrow.Author.Tests.{le-ltb, eqb-false}
 use lib.Dec.{eqb}
 use lib.ListN.{length, get_or, set}
 use lib.Pow.{split}
 use lib.Seq.{get_or-set_same, get_or-set_other}
-use Rattle.std.specs.Prelude.{Ok}
+use Rattle.std.specs.Prelude.{Result, Ok, Err}
 use Rattle.digits.specs.Table.{among}
+use Rattle.digits.specs.declared.refusal.Refusal.{Refusal}
 use Rattle.digits.proofs.Truth.{neither}
-use Rattle.trap.specs.Trap.{standing_at, trap_of}
+use Rattle.trap.specs.Trap.{standing_at, trap_of, state_after}
 use Rattle.machine.specs.declared.State.{State}
 use Rattle.trap.proofs.Calls.{taken_is}
 use Rattle.channels.specs.Channels.{record_length, loaded}
-use Rattle.panel.specs.Answers.{placed}
+use Rattle.panel.specs.Answers.{placed, answer_trap, trap_call}
 
 -- a list of places and bytes, written one after the other
 abbrev Written : List (ℕ × ℕ) → List ℕ → List ℕ
@@ -89,3 +90,12 @@ module _ (address : ℕ) (state : List ℕ) (long : record_length ≤ length sta
   pub trap_placed : (t : State) → trap_of address (loaded state) ≡ Ok t → loaded (placed t state) ≡ t
   unfolding after_trap
   trap_placed t taken = subst (λ (x : State). loaded (placed x state) ≡ x) (taken_is address (loaded state) t taken).1 back
+
+  -- be it taken or refused, the record then shows the state after the trap
+  pub trap_shown : loaded (trap_call address state).lent ≡ state_after (loaded state) (trap_of address (loaded state))
+  unfolding trap_call
+  trap_shown = rw (le-ltb (length state) record_length long) (by (trap_of address (loaded state)) refl)
+    where
+      by : (a : Result State Refusal) → trap_of address (loaded state) ≡ a → loaded (answer_trap a state).lent ≡ state_after (loaded state) a
+      by (Ok t) e = trap_placed t e
+      by (Err r) e = refl

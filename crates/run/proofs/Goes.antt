@@ -82,8 +82,8 @@ pub record Lawful (store : List ℕ) (cycle : Cycle) : Type 0 where
   pub sizes_stay : (main local : List ℕ) (s : State) → SameSizes main local (cycle main local s)
   -- 1 is given for wrong sizes alone, and 22 never; a refusal's number and field are bytes
   pub refused_by_1 : (m : Machine) → Wrong store m → outcome (C.Refused m.state R.Size) m.main m.local ≡ cycle m.main m.local m.state
-  pub never_1 : (m : Machine) → Right store m → refusal_in (cycle m.main m.local m.state).answer ≡ Some R.Size → ⊥
-  pub never_22 : (m : Machine) → refusal_in (cycle m.main m.local m.state).answer ≡ Some R.Budget → ⊥
+  pub never_1 : (m : Machine) → Right store m → (r : Refusal) → refusal_in (cycle m.main m.local m.state).answer ≡ Some r → refusal_number r ≡ 1 → ⊥
+  pub never_22 : (m : Machine) (r : Refusal) → refusal_in (cycle m.main m.local m.state).answer ≡ Some r → refusal_number r ≡ 22 → ⊥
   pub refusal_small : (main local : List ℕ) (s t : State) (r : Refusal) → (cycle main local s).answer ≡ C.Refused t r → (refusal_number r < 256) × (refusal_field r < 256)
 
 -- the machine's is such a one, in any fence and under any reading

@@ -132,11 +132,11 @@ module _ {store : List ℕ} {cycle : Cycle} (law : Lawful store cycle) (budget :
 
 -- 1 or 22
 abbrev AtOnce : Refusal → Type 0
-AtOnce r = (r ≡ R.Size) ⊎ (r ≡ R.Budget)
+AtOnce r = (refusal_number r ≡ 1) ⊎ (refusal_number r ≡ 22)
 
 no_cycle : {store : List ℕ} {cycle : Cycle} → Lawful store cycle → (m : Machine) (r : Refusal) → AtOnce r → Right store m → refusal_in (cycle m.main m.local m.state).answer ≡ Some r → ⊥
-no_cycle law m r (inl one) right e = law.never_1 m right (e ∙ ap Some one)
-no_cycle law m r (inr last) right e = law.never_22 m (e ∙ ap Some last)
+no_cycle law m r (inl one) right e = law.never_1 m right r e one
+no_cycle law m r (inr last) right e = law.never_22 m r e last
 
 no_ending : {store : List ℕ} {cycle : Cycle} → Lawful store cycle → (budget k : ℕ) (r : Refusal) → AtOnce r → (ending : Ending) (x : Machine) → Right store x → Ends cycle budget k ending x → refusal_by ending ≡ Some r → ⊥
 no_ending law budget k r which Spent x right ends e = some_not_none (sym e)
@@ -150,7 +150,7 @@ no_cycles {store} {cycle} law budget r which m right e =
     let d = done law budget 0 m in
     no_ending law budget d.cycles r which x.answer.ending (standing x) (goes_right law d.goes right) d.ends e
 
-pub run_exactly : {store : List ℕ} {cycle : Cycle} → Lawful store cycle → (budget : ℕ) (main local : List ℕ) (s : State) (r : Refusal) → (r ≡ R.Size) ⊎ (r ≡ R.Budget)
+pub run_exactly : {store : List ℕ} {cycle : Cycle} → Lawful store cycle → (budget : ℕ) (main local : List ℕ) (s : State) (r : Refusal) → (refusal_number r ≡ 1) ⊎ (refusal_number r ≡ 22)
     → (refusal_by (run_over cycle budget store main local s).answer.ending ≡ Some r) ↔ Given r (run_checks (length store) (length main) (length local) budget)
 unfolding run_over
 run_exactly {store} {cycle} law budget main local s r which = (to (first cs) refl, back)

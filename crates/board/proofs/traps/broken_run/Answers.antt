@@ -1,7 +1,6 @@
 -- What is left of the run stands for the whole; what is shown changes nothing of it. Assumes nothing.
-use Rattle.std.proofs.Common.{◌≡◌, ◌-◌, [], refl, sym, ap, ◌∙◌, arith}
+use Rattle.std.proofs.Common.{◌≡◌, ◌-◌, [], refl, sym, ◌∙◌, arith}
 use native.Mathlib.Nat.{sub-zero}
-use Rattle.board.specs.Broken.{state_of}
 use Rattle.board.proofs.Broken.{goes_on_lem, ends_early, ends}
 use Rattle.board.proofs.traps.broken_run.Goals as goal
 
@@ -26,7 +25,7 @@ loop-trap-preserved g c =
       c.go-finished.auto.main ∙ at.invariant.2,
       c.go-finished.auto.local ∙ at.invariant.3,
       goes_on_lem a.budget a.reading a.store.now a.main.now a.local.now a.state at.invariant.4 (trap.after - at.done) trap.address (a.budget - trap.after) c.go-finished.ensures
-          (sym c.spent.ensures ∙ c.if-not-spent.false) left (c.state_of-now.ensures ∙ ap (state_of c.go-finished.result.state) c.trap-answer.ensures),
+          (sym c.spent.ensures ∙ c.if-not-spent.false) left c.trapped-now.ensures,
     )
 
 pub returns : goal.returns
