@@ -4,7 +4,7 @@
 use programs::{folder, root, run, Said};
 use std::fs;
 use std::io::{BufRead, BufReader};
-use std::os::unix::fs::{symlink, PermissionsExt};
+use std::os::unix::fs::symlink;
 use std::path::{Path, PathBuf};
 use std::process::{Command, Stdio};
 
@@ -14,9 +14,11 @@ struct Bench {
     here: PathBuf,
 }
 
+/// A child writes it: had this process it open to write, a child that another test forks meanwhile would hold it open too, and until
+/// that child runs its own program nothing could run this one.
 fn script(path: &Path, text: &str) {
-    fs::write(path, text).expect("a script");
-    fs::set_permissions(path, fs::Permissions::from_mode(0o755)).expect("that can be run");
+    let said = run(Command::new("sh").args(["-c", "cat >\"$0\" && chmod +x \"$0\""]).arg(path), text.as_bytes());
+    assert!(said.well(), "{said:?}");
 }
 
 /// Proves in a crate's folder where there is no file `broken`, builds a program that says what the file of the crate below has, and
@@ -43,7 +45,7 @@ impl Bench {
             fs::create_dir_all(here.join(part)).expect("a folder");
         }
         for tool in ["tools/proved", "tools/program", "tools/crate", "lister"] {
-            fs::copy(root().join(tool), here.join(tool)).expect(tool);
+            script(&here.join(tool), &fs::read_to_string(root().join(tool)).expect(tool));
         }
         script(&here.join("tools/x86"), "#!/bin/sh\nexec \"$@\"\n");
         script(&here.join("kit/rt"), KIT);
